@@ -1,0 +1,8 @@
+pub mod Addresses
+pub mod Choice
+pub mod Formula
+pub mod Lists
+pub mod Outcome
+pub mod Table
+pub mod Tests
+pub mod Wrap

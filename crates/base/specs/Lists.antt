@@ -1,0 +1,28 @@
+-- Parts of a slice, as they come back from a call that was lent them, and stores that fill a list from its front.
+-- Assumes nothing.
+use Prim.Native.Nat.{ℕ, suc, _+_, _-_, _≤_, _<_}
+use mathlib.Core.Path.{_≡_}
+use mathlib.Core.List.{List, [], _∷_, _++_, append-assoc, append-nil}
+use native.Mathlib.Nat.{le-of-eq}
+use native.Mathlib.Numerals.{add-one}
+use native.Mathlib.Omega.{arith}
+use lib.ListN.{length, getD, take, drop, set, length-drop, drop-of-length-le}
+use lib.Seq.{take-all, drop-cons, set-at}
+
+-- the part from n to the end
+pub part-to-end : (n : ℕ) (l : List ℕ) → take (length l - n) (drop n l) ≡ drop n l
+part-to-end n l = take-all (length l - n) (drop n l) (le-of-eq (length-drop n l))
+
+-- the whole, once the part from a on has come back with d in front
+pub part-back : (xs d : List ℕ) (a n : ℕ)
+    → take a xs ++ ((d ++ drop n (take (length xs - a) (drop a xs))) ++ drop (length xs - a) (drop a xs))
+    ≡ take a xs ++ (d ++ drop n (drop a xs))
+part-back xs d a n =
+    let e : length (drop a xs) ≤ length xs - a = omega (arith, length-drop a xs) in
+    rw (take-all (length xs - a) (drop a xs) e, drop-of-length-le (drop a xs) e, append-nil)
+
+-- a store right behind what is written
+pub store-next : (done p : List ℕ) (i v : ℕ) → length done ≡ i → i < length p
+    → set (done ++ drop i p) i v ≡ (done ++ (v ∷ [])) ++ drop (i + 1) p
+store-next done p i v e h =
+    rw (drop-cons p i 0 h, set-at done (getD p i 0) (drop (suc i) p) v i e, add-one, append-assoc)
