@@ -11,7 +11,6 @@ use lib.Dec.{T, leb, ltb, eqb, leb→le, nleb→lt, eqb→eq, ltb→lt, le→leb
 infixr 35 _&_
 infixr 30 _‖_
 infixr 25 _⇒_
-
 pub T-true : (b : Bool) → T b → b ≡ true
 T-true true t = refl
 T-true false t = absurd t
