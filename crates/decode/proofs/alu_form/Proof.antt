@@ -1,0 +1,22 @@
+use mathlib.Core.Path.{_≡_}
+use native.Mathlib.Omega.{arith}
+use Rattle.decode.proofs.alu_form.Statement.{statement}
+use Rattle.decode.proofs.alu_form.Tie as tie
+
+returns : tie.Need-returns
+returns c = rw (c .match .keys1)
+
+returns-2 : tie.Need-returns-2
+returns-2 c = rw (c .match .keys2)
+
+returns-3 : tie.Need-returns-3
+returns-3 c = rw (c .match .keys3)
+
+returns-4 : tie.Need-returns-4
+returns-4 c = rw (c .match .keys4)
+
+returns-5 : tie.Need-returns-5
+returns-5 c = let e : c .before .args .low ≡ 6 = omega arith in rw e
+
+pub alu-form-spec : {M : Type 1} → statement M
+alu-form-spec = tie.close (tie.spec returns returns-2 returns-3 returns-4 returns-5)
