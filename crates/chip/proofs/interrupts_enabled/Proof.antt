@@ -1,0 +1,19 @@
+-- `chip::interrupts_enabled` meets its contract.
+-- Assumes nothing.
+use mathlib.Core.Path.{refl}
+use Rattle.chip.specs.Interrupts.{interruptsEnabled}
+use borrow.Author.Needs.{needs}
+use Rattle.chip.proofs.interrupts_enabled.Statement.{statement}
+use Rattle.chip.proofs.interrupts_enabled.Tie as tie
+use Rattle.chip.proofs.interrupts_enabled.Reads as reads
+use Rattle.chip.proofs.interrupts_enabled.Lts as lts
+
+element-copy-out-result : tie.Need-element-copy-out-result
+element-copy-out-result c = search needs
+
+returns : tie.Need-returns
+unfolding interruptsEnabled
+returns c = refl
+
+pub interrupts-enabled-spec : {M : Type 1} → statement M
+interrupts-enabled-spec = tie.close (tie.spec element-copy-out-result returns)

@@ -1,0 +1,27 @@
+-- `chip::pending_any` meets its contract.
+-- Assumes nothing.
+use Rattle.chip.specs.Interrupts.{pendingAny}
+use borrow.Author.Needs.{needs}
+use Rattle.chip.proofs.pending_any.Statement.{statement}
+use Rattle.chip.proofs.pending_any.Tie as tie
+use Rattle.chip.proofs.pending_any.Reads as reads
+use Rattle.chip.proofs.pending_any.Lts as lts
+use Rattle.chip.proofs.pending_edge.Reads as pending-edge-reads
+
+element-copy-out-result : tie.Need-element-copy-out-result
+element-copy-out-result c = search needs
+
+element-copy-out-result-2 : tie.Need-element-copy-out-result-2
+element-copy-out-result-2 c = search needs
+
+pending-edge-requires : tie.Need-pending-edge-requires
+pending-edge-requires c κs = search needs
+
+returns : tie.Need-returns
+unfolding pendingAny
+returns c = simp (c .pending-edge .ensures)
+
+pub pending-any-spec : {M : Type 1} → statement M
+pending-any-spec =
+    tie.close
+    (tie.spec element-copy-out-result element-copy-out-result-2 pending-edge-requires returns)

@@ -1,0 +1,22 @@
+-- `chip::pending_edge` meets its contract.
+-- Assumes nothing.
+use mathlib.Core.Path.{refl}
+use Rattle.chip.specs.Interrupts.{pendingEdge}
+use borrow.Author.Needs.{needs}
+use Rattle.chip.proofs.pending_edge.Statement.{statement}
+use Rattle.chip.proofs.pending_edge.Tie as tie
+use Rattle.chip.proofs.pending_edge.Reads as reads
+use Rattle.chip.proofs.pending_edge.Lts as lts
+
+element-copy-out-result : tie.Need-element-copy-out-result
+element-copy-out-result c = search needs
+
+element-copy-out-result-2 : tie.Need-element-copy-out-result-2
+element-copy-out-result-2 c = search needs
+
+returns : tie.Need-returns
+unfolding pendingEdge
+returns c = refl
+
+pub pending-edge-spec : {M : Type 1} → statement M
+pending-edge-spec = tie.close (tie.spec element-copy-out-result element-copy-out-result-2 returns)

@@ -1,0 +1,28 @@
+-- `chip::raise` meets its contract.
+-- Assumes nothing.
+use Rattle.chip.specs.Interrupts.{raiseOf}
+use borrow.Author.Needs.{needs}
+use Rattle.chip.proofs.raise.Statement.{statement}
+use Rattle.chip.proofs.raise.Tie as tie
+use Rattle.chip.proofs.raise.Reads as reads
+use Rattle.chip.proofs.raise.Lts as lts
+
+cast-i : tie.Need-cast-i
+cast-i c = search needs
+
+element-copy-out-v : tie.Need-element-copy-out-v
+element-copy-out-v c = search needs
+
+element-write-regs : tie.Need-element-write-regs
+element-write-regs c = search needs
+
+returns : tie.Need-returns
+unfolding raiseOf
+returns c = simp (c .before .if1 .taken)
+
+returns-2 : tie.Need-returns-2
+unfolding raiseOf
+returns-2 c = simp (c .if1 .left)
+
+pub raise-spec : {M : Type 1} → statement M
+raise-spec = tie.close (tie.spec cast-i element-copy-out-v element-write-regs returns returns-2)

@@ -1,0 +1,27 @@
+-- `chip::set_interrupts` meets its contract.
+-- Assumes nothing.
+use Rattle.chip.specs.Registers.{keptBits, writtenOf, keptOf, storeOf}
+use Rattle.chip.specs.Interrupts.{setInterruptsOf}
+use borrow.Author.Needs.{needs}
+use Rattle.chip.proofs.set_interrupts.Statement.{statement}
+use Rattle.chip.proofs.set_interrupts.Tie as tie
+use Rattle.chip.proofs.set_interrupts.Reads as reads
+use Rattle.chip.proofs.set_interrupts.Lts as lts
+
+element-write-regs : tie.Need-element-write-regs
+element-write-regs c = search needs
+
+element-write-regs-2 : tie.Need-element-write-regs-2
+element-write-regs-2 c = search needs
+
+returns : tie.Need-returns
+unfolding setInterruptsOf storeOf keptOf writtenOf keptBits
+returns c = simp (c .if1 .taken)
+
+returns-2 : tie.Need-returns-2
+unfolding setInterruptsOf storeOf keptOf writtenOf keptBits
+returns-2 c = simp (c .if1 .left)
+
+pub set-interrupts-spec : {M : Type 1} → statement M
+set-interrupts-spec =
+    tie.close (tie.spec element-write-regs element-write-regs-2 returns returns-2)

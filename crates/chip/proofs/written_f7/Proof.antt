@@ -1,0 +1,16 @@
+-- `chip::written_f7` meets its contract.
+-- Assumes nothing.
+use borrow.Author.Tests.{eq-eqb, ne-eqb}
+use Rattle.chip.proofs.written_f7.Statement.{statement}
+use Rattle.chip.proofs.written_f7.Tie as tie
+use Rattle.chip.proofs.written_f7.Reads as reads
+use Rattle.chip.proofs.written_f7.Lts as lts
+
+returns : tie.Need-returns
+returns c = simp (eq-eqb _ _ (c .if1 .taken))
+
+returns-2 : tie.Need-returns-2
+returns-2 c = simp (ne-eqb _ _ (c .if1 .left))
+
+pub written-f7-spec : {M : Type 1} → statement M
+written-f7-spec = tie.close (tie.spec returns returns-2)

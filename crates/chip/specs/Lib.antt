@@ -1,0 +1,7 @@
+pub mod Bits
+pub mod Cells
+pub mod Interrupts
+pub mod Laws
+pub mod Registers
+pub mod Reset
+pub mod Words

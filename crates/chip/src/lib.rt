@@ -1,0 +1,195 @@
+// The register file of the S3F9454: which addresses are mapped, what a read gives, what a write leaves, interrupt bits, reset.
+ghost use mathlib.Core.Path.{_≡_};
+ghost use Rattle.chip.specs.Registers.{keptBits, mappedOf, loadOf, writtenF7, writtenOf, keptOf, storeOf};
+ghost use Rattle.chip.specs.Interrupts.{interruptsEnabled, setInterruptsOf, pendingEdge, pendingAny, raiseOf, postOf};
+ghost use Rattle.chip.specs.Reset.{resetRegisters};
+ghost use Rattle.chip.specs.Words.{keptWord};
+use base::RegAddr;
+
+// Whether a is RAM or a control register.
+pub fn mapped(a: RegAddr) -> bool
+    ensures { λ r. ⌜ r ≡ mappedOf (a .0) ⌝ }
+{
+    let n = a.0;
+    if n < 0xD0 {
+        return true;
+    }
+    (0x39C0FC7FA37u64 >> (n - 0xD0)) % 2 == 1
+}
+
+fn kept_word(k: u8) -> u64
+    ensures { λ r. ⌜ r ≡ keptWord k ⌝ }
+{
+    match k {
+        26 => 0xF09800CBFF00,
+        27 => 0x40000FCFF00FF00,
+        28 => 0xFFFF0000007F07FF,
+        29 => 0xFF7FCF0F,
+        30 => 0xFE0000FFDFFF0000,
+        31 => 0x0,
+        _ => 0xFFFFFFFFFFFFFFFF,
+    }
+}
+
+// The bits that address n keeps.
+pub fn kept_bits(n: u8) -> u8
+    ensures { λ r. ⌜ r ≡ keptBits n ⌝ }
+{
+    let k = n % 8 * 8;
+    ((kept_word(n / 8) >> k) % 256) as u8
+}
+
+// What a step with schedule record rec reads at a.
+pub fn load(regs: &[u8; 256], rec: &[u8; 8], a: RegAddr) -> u8
+    ensures { λ r. ⌜ r ≡ loadOf (now (regs .entry)) (now (rec .entry)) (a .0) ⌝ }
+{
+    let n = a.0;
+    let i = n as usize;
+    if n < 0xD0 {
+        return regs[i];
+    }
+    match n {
+        0xE0 => rec[1],
+        0xE1 => rec[2] % 8,
+        0xE2 => rec[3] % 128,
+        0xD0 => rec[4],
+        0xDD => rec[5],
+        0xF8 => rec[6],
+        0xF9 => rec[7] % 4,
+        _ => regs[i] & kept_bits(n),
+    }
+}
+
+// F7H: bit 3 stays, except that writing 1 to bit 0 clears it.
+fn written_f7(old: u8, v: u8) -> u8
+    ensures { λ r. ⌜ r ≡ writtenF7 old v ⌝ }
+{
+    if v % 2 == 1 {
+        return v & 0xF7;
+    }
+    (v & 0xF7) | (old & 0x08)
+}
+
+// What a write of v asks for at control register n, which holds old.
+fn written(n: u8, old: u8, v: u8) -> u8
+    ensures { λ r. ⌜ r ≡ writtenOf n old v ⌝ }
+{
+    match n {
+        0xD2 => v & (old | 0xFE),
+        0xE8 => v & (old | 0xFA),
+        0xF3 => v & (old | 0xFE),
+        0xF7 => written_f7(old, v),
+        _ => v,
+    }
+}
+
+// What a write of v leaves at a, which holds old.
+pub fn kept(a: RegAddr, old: u8, v: u8) -> u8
+    ensures { λ r. ⌜ r ≡ keptOf (a .0) old v ⌝ }
+{
+    let n = a.0;
+    if n < 0xD0 {
+        return v;
+    }
+    let bits = kept_bits(n);
+    if bits == 0 {
+        return old;
+    }
+    written(n, old, v) & bits
+}
+
+pub fn store(regs: &mut [u8; 256], a: RegAddr, v: u8)
+    ensures { λ _. ⌜ now (regs .exit) ≡ storeOf (now (regs .entry)) (a .0) v ⌝ }
+{
+    let i = a.0 as usize;
+    let x = kept(a, regs[i], v);
+    regs[i] = x;
+}
+
+// SYM.2
+pub fn interrupts_enabled(regs: &[u8; 256]) -> bool
+    ensures { λ r. ⌜ r ≡ interruptsEnabled (now (regs .entry)) ⌝ }
+{
+    regs[0xDF] / 4 % 2 == 1
+}
+
+pub fn set_interrupts(regs: &mut [u8; 256], on: bool)
+    ensures { λ _. ⌜ now (regs .exit) ≡ setInterruptsOf (now (regs .entry)) on ⌝ }
+{
+    if on {
+        regs[0xDF] = 0x04;
+    } else {
+        regs[0xDF] = 0x00;
+    }
+}
+
+// An external source is enabled and pending.
+pub fn pending_edge(regs: &[u8; 256]) -> bool
+    ensures { λ r. ⌜ r ≡ pendingEdge (now (regs .entry)) ⌝ }
+{
+    (regs[0xE8] % 4 == 3) | (regs[0xE8] / 4 % 4 == 3)
+}
+
+// Any source is enabled and pending.
+pub fn pending_any(regs: &[u8; 256]) -> bool
+    ensures { λ r. ⌜ r ≡ pendingAny (now (regs .entry)) ⌝ }
+{
+    (regs[0xD2] % 4 == 3) | (regs[0xF3] % 4 == 3) | pending_edge(regs)
+}
+
+// Sets the bits at a, if on.
+fn raise(regs: &mut [u8; 256], on: bool, a: RegAddr, bits: u8)
+    ensures { λ _. ⌜ now (regs .exit) ≡ raiseOf (now (regs .entry)) on (a .0) bits ⌝ }
+{
+    let i = a.0 as usize;
+    if on {
+        let v = regs[i] | bits;
+        regs[i] = v;
+    }
+}
+
+// The requests of a schedule record's byte 0.
+pub fn post(regs: &mut [u8; 256], requests: u8)
+    ensures { λ _. ⌜ now (regs .exit) ≡ postOf (now (regs .entry)) requests ⌝ }
+{
+    if requests == 0 {
+        return;
+    }
+    raise(regs, requests % 2 == 1, RegAddr(0xD2), 0x01);
+    raise(regs, requests / 2 % 2 == 1, RegAddr(0xF3), 0x01);
+    raise(regs, requests / 4 % 2 == 1, RegAddr(0xE8), 0x01);
+    raise(regs, requests / 8 % 2 == 1, RegAddr(0xE8), 0x04);
+    raise(regs, requests / 16 % 2 == 1, RegAddr(0xF7), 0x08);
+}
+
+// The registers at reset: table 8-1. RAM, FLAGS and SP, which it leaves open, are 0.
+pub fn reset_registers() -> [u8; 256]
+    ensures { λ r. ⌜ r ≡ resetRegisters ⌝ }
+{
+    let mut regs = [0u8; 256];
+    regs[0xD0] = 0x00;
+    regs[0xD1] = 0xFF;
+    regs[0xD2] = 0x00;
+    regs[0xD4] = 0x00;
+    regs[0xDB] = 0x00;
+    regs[0xDC] = 0x00;
+    regs[0xDD] = 0x00;
+    regs[0xDE] = 0x00;
+    regs[0xDF] = 0x00;
+    regs[0xE0] = 0x00;
+    regs[0xE1] = 0x00;
+    regs[0xE2] = 0x00;
+    regs[0xE6] = 0x00;
+    regs[0xE7] = 0x00;
+    regs[0xE8] = 0x00;
+    regs[0xE9] = 0x00;
+    regs[0xEA] = 0x00;
+    regs[0xEB] = 0x00;
+    regs[0xF2] = 0x00;
+    regs[0xF3] = 0x00;
+    regs[0xF4] = 0x00;
+    regs[0xF7] = 0x00;
+    regs[0xF8] = 0x00;
+    regs[0xF9] = 0x00;
+    regs
+}

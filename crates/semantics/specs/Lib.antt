@@ -1,0 +1,5 @@
+pub mod Execute
+pub mod Operands
+pub mod Reset
+pub mod Run
+pub mod Step
