@@ -1,0 +1,4 @@
+pub mod Layout
+pub mod Rules
+pub mod Summaries
+pub mod Verdicts

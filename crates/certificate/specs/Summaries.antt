@@ -1,0 +1,194 @@
+-- The effect summary of an action: what it may store, read and change, and where control goes. The checker's rules read nothing else of an
+-- instruction but its cost; `safety` proves each action against its summary.
+-- Assumes nothing.
+use Prim.Native.Nat.{ℕ, _+_, _-_}
+use mathlib.Core.Bool.{Bool, true, false}
+use lib.Dec.{eqb, ltb}
+use Rattle.base.specs.declared.RegAddr.{RegAddr}
+use Rattle.base.specs.declared.RomAddr.{RomAddr}
+use Rattle.base.specs.Addresses.{romAddr}
+use Rattle.base.specs.Choice.{pick}
+use Rattle.isa.specs.declared.Alu.{Alu}
+use Rattle.isa.specs.declared.Alu.the-variants.{Add, Adc, Sub, Sbc, Or, And, Tcm, Tm, Cp, Xor}
+use Rattle.isa.specs.declared.Unary.{Unary}
+use Rattle.isa.specs.declared.Unary.the-variants.{Dec, Rlc, Inc, Com, Rl, Clr, Rrc, Sra, Rr}
+use Rattle.alu.specs.Operations.{stores}
+use Rattle.action.specs.declared.Operand.{Operand}
+use Rattle.action.specs.declared.CodeAddress.{CodeAddress}
+use Rattle.action.specs.declared.Action.{Action}
+use Rattle.certificate.specs.declared.NewValue.{NewValue}
+use Rattle.certificate.specs.declared.NewValue.the-variants.{Number, OneMore, OneLess, AtMost, CopyOf, Unknown}
+use Rattle.certificate.specs.declared.Write.{Write}
+use Rattle.certificate.specs.declared.Access.{Access}
+use Rattle.certificate.specs.declared.CodeAccess.{CodeAccess}
+use Rattle.certificate.specs.declared.FlagEffect.{FlagEffect}
+use Rattle.certificate.specs.declared.FlagEffect.the-variants.{Kept, Changed, Compared}
+use Rattle.certificate.specs.declared.StackEffect.{StackEffect}
+use Rattle.certificate.specs.declared.StackEffect.the-variants.{Same, Push, Pop, Load}
+use Rattle.certificate.specs.declared.Control.{Control}
+use Rattle.certificate.specs.declared.Control.the-variants.{Enable, Disable, Wait}
+use Rattle.certificate.specs.declared.Flow.{Flow}
+use Rattle.certificate.specs.declared.Flow.the-variants.{Step, Call, Return, InterruptReturn, Forbidden}
+use Rattle.certificate.specs.declared.Summary.{Summary}
+
+-- storing to an operand, and reading one
+abbrev pub writeTo : Operand → NewValue → Write
+writeTo (Operand.Register a) v = Write.Register a v
+writeTo (Operand.Indirect p x) v = Write.Pointed p x
+writeTo (Operand.Immediate n) v = Write.Nothing
+
+abbrev pub reading : Operand → Access
+reading (Operand.Register a) = Access.Register a
+reading (Operand.Indirect p x) = Access.Pointed p x
+reading (Operand.Immediate n) = Access.Nothing
+
+-- control goes behind the instruction
+abbrev pub onward : Flow
+onward = Step 0 (romAddr 0)
+
+-- a summary that stores and reads operands
+abbrev pub moving : Write → Access → Access → FlagEffect → StackEffect → Summary
+moving w first second f k =
+    record { write = w; first = first; second = second; code = CodeAccess.Nothing; flags = f; stack = k; control = Control.Nothing; flow = onward }
+
+abbrev pub reaching : Write → CodeAccess → Summary
+reaching w c = record {
+  write = w;
+  first = Access.Nothing;
+  second = Access.Nothing;
+  code = c;
+  flags = Kept;
+  stack = Same;
+  control = Control.Nothing;
+  flow = onward;
+}
+
+-- a summary of control alone
+abbrev pub controlling : FlagEffect → Control → Flow → Summary
+controlling f c to = record {
+  write = Write.Nothing;
+  first = Access.Nothing;
+  second = Access.Nothing;
+  code = CodeAccess.Nothing;
+  flags = f;
+  stack = Same;
+  control = c;
+  flow = to;
+}
+
+-- what no accepted program has
+abbrev pub forbidden : Summary
+forbidden = controlling Kept Control.Nothing Forbidden
+
+-- a number is no destination; no instruction has one there
+abbrev pub into : Operand → Summary → Summary
+into (Operand.Register a) S = S
+into (Operand.Indirect p x) S = S
+into (Operand.Immediate n) S = forbidden
+
+-- AND with a number gives at most that number
+abbrev pub binaryValue : Alu → Operand → NewValue
+binaryValue And (Operand.Immediate n) = AtMost n
+binaryValue And (Operand.Register a) = Unknown
+binaryValue And (Operand.Indirect p x) = Unknown
+binaryValue Add s = Unknown
+binaryValue Adc s = Unknown
+binaryValue Sub s = Unknown
+binaryValue Sbc s = Unknown
+binaryValue Or s = Unknown
+binaryValue Tcm s = Unknown
+binaryValue Tm s = Unknown
+binaryValue Cp s = Unknown
+binaryValue Xor s = Unknown
+
+-- `CP cell,#k` (A6H) leaves a compare
+abbrev pub binaryFlags : Alu → Operand → Operand → FlagEffect
+binaryFlags Cp (Operand.Register a) (Operand.Immediate k) = Compared a k
+binaryFlags Cp (Operand.Register a) (Operand.Register b) = Changed
+binaryFlags Cp (Operand.Register a) (Operand.Indirect p x) = Changed
+binaryFlags Cp (Operand.Indirect p x) s = Changed
+binaryFlags Cp (Operand.Immediate n) s = Changed
+binaryFlags Add d s = Changed
+binaryFlags Adc d s = Changed
+binaryFlags Sub d s = Changed
+binaryFlags Sbc d s = Changed
+binaryFlags Or d s = Changed
+binaryFlags And d s = Changed
+binaryFlags Tcm d s = Changed
+binaryFlags Tm d s = Changed
+binaryFlags Xor d s = Changed
+
+-- CP, TM and TCM read both operands and store nothing
+abbrev pub binarySummary : Bool → Alu → Operand → Operand → Summary
+binarySummary true op d s = moving (writeTo d (binaryValue op s)) Access.Nothing (reading s) Changed Same
+binarySummary false op d s = moving Write.Nothing (reading d) (reading s) (binaryFlags op d s) Same
+
+abbrev pub modifyValue : Unary → NewValue
+modifyValue Dec = OneLess
+modifyValue Rlc = Unknown
+modifyValue Inc = OneMore
+modifyValue Com = Unknown
+modifyValue Rl = Unknown
+modifyValue Clr = Number 0
+modifyValue Rrc = Unknown
+modifyValue Sra = Unknown
+modifyValue Rr = Unknown
+
+-- CLR changes no flag
+abbrev pub modifyFlags : Unary → FlagEffect
+modifyFlags Dec = Changed
+modifyFlags Rlc = Changed
+modifyFlags Inc = Changed
+modifyFlags Com = Changed
+modifyFlags Rl = Changed
+modifyFlags Clr = Kept
+modifyFlags Rrc = Changed
+modifyFlags Sra = Changed
+modifyFlags Rr = Changed
+
+abbrev pub loadValue : Operand → NewValue
+loadValue (Operand.Register a) = CopyOf a
+loadValue (Operand.Indirect p x) = Unknown
+loadValue (Operand.Immediate n) = Number n
+
+-- LD; of SP with a number: the stack pointer is loaded
+abbrev pub loadSummary : Operand → Operand → Summary
+loadSummary (Operand.Register a) (Operand.Immediate n) =
+    pick (eqb (a .0) 0xD9) (moving Write.Nothing Access.Nothing Access.Nothing Kept (Load n))
+    (moving (Write.Register a (Number n)) Access.Nothing Access.Nothing Kept Same)
+loadSummary (Operand.Register a) (Operand.Register b) = moving (Write.Register a (CopyOf b)) Access.Nothing (Access.Register b) Kept Same
+loadSummary (Operand.Register a) (Operand.Indirect p x) = moving (Write.Register a Unknown) Access.Nothing (Access.Pointed p x) Kept Same
+loadSummary (Operand.Indirect q y) s = moving (Write.Pointed q y) Access.Nothing (reading s) Kept Same
+loadSummary (Operand.Immediate n) s = forbidden
+
+-- the offset of 8 bits is signed, that of 16 bits is not
+abbrev pub codeAccess : CodeAddress → CodeAccess
+codeAccess (CodeAddress.Direct a) = CodeAccess.Direct a
+codeAccess (CodeAddress.Short p x) = pick (ltb x 128) (CodeAccess.Pair p x 0) (CodeAccess.Pair p 0 (256 - x))
+codeAccess (CodeAddress.Long p x) = CodeAccess.Pair p x 0
+
+-- EI and DI
+abbrev pub switching : Bool → Control
+switching true = Enable
+switching false = Disable
+
+unfoldable pub summaryOf : Action → Summary
+summaryOf (Action.Binary op d s) = into d (binarySummary (stores op) op d s)
+summaryOf (Action.Modify op d) = into d (moving (writeTo d (modifyValue op)) Access.Nothing Access.Nothing (modifyFlags op) Same)
+summaryOf (Action.Load d s) = loadSummary d s
+summaryOf (Action.Push s) = moving Write.Nothing Access.Nothing (reading s) Kept Push
+summaryOf (Action.Pop d) = into d (moving (writeTo d Unknown) Access.Nothing Access.Nothing Kept Pop)
+summaryOf (Action.LoadCode d c) = reaching (Write.Register d Unknown) (codeAccess c)
+summaryOf (Action.LoadCodeStep d p up) = reaching (Write.RegisterAndPair d p) (CodeAccess.Pair p 0 0)
+summaryOf Action.External = forbidden
+summaryOf (Action.Jump cc to) = controlling Kept Control.Nothing (Step cc to)
+summaryOf (Action.JumpPair p) = forbidden
+summaryOf (Action.Call to) = controlling Kept Control.Nothing (Call to)
+summaryOf (Action.CallPair p) = forbidden
+summaryOf Action.Return = controlling Kept Control.Nothing Return
+summaryOf Action.InterruptReturn = controlling Kept Control.Nothing InterruptReturn
+summaryOf (Action.Carry c) = controlling Changed Control.Nothing onward
+summaryOf (Action.Interrupts on) = controlling Kept (switching on) onward
+summaryOf Action.Idle = controlling Kept Wait onward
+summaryOf Action.Stop = forbidden
+summaryOf Action.Nop = controlling Kept Control.Nothing onward

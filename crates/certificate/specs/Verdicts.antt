@@ -1,0 +1,83 @@
+-- The verdict on an image and a certificate: 7 for wrong lengths, then rule 20, then the lowest address and there the lowest number.
+-- Assumes nothing.
+use Prim.Native.Nat.{ℕ, zero, suc, _+_, _%_}
+use mathlib.Core.Bool.{Bool, true, false, _&&_}
+use mathlib.Core.List.{List, [], _∷_}
+use lib.ListN.{length, getD}
+use lib.Dec.{eqb}
+use Rattle.base.specs.Addresses.{romAddr}
+use Rattle.base.specs.Choice.{pick}
+use Rattle.base.specs.Outcome.{Outcome}
+use Rattle.base.specs.Outcome.Outcome.{value, refused}
+use Rattle.base.specs.Formula.{Formula, decide}
+use Rattle.isa.specs.declared.Instruction.{Instruction}
+use Rattle.isa.specs.Map.{cyclesOf}
+use Rattle.decode.specs.Decode.{decodeAt}
+use Rattle.action.specs.Action.{actionOf}
+use Rattle.certificate.specs.declared.Summary.{Summary}
+use Rattle.certificate.specs.declared.Verdict.{Verdict}
+use Rattle.certificate.specs.declared.Verdict.the-variants.{Accepted, Refused}
+use Rattle.certificate.specs.Layout.{Certificate, certificateLength, certificateOf}
+use Rattle.certificate.specs.Summaries.{summaryOf, forbidden}
+use Rattle.certificate.specs.Rules.{romEnd, rule20, rule21, rule22, rule23, rule24, rule25, rule26, rule27}
+
+-- the instruction at an address: its summary, and the address behind it (one byte where there is none)
+unfoldable pub summaryFrom : Outcome (Instruction × ℕ) → ℕ → Summary
+summaryFrom (value d) a = summaryOf (actionOf (d .0) (romAddr ((a + d .1) % 65536)))
+summaryFrom (refused n) a = forbidden
+
+abbrev pub sizeFrom : Outcome (Instruction × ℕ) → ℕ
+sizeFrom (value d) = d .1
+sizeFrom (refused n) = 1
+
+unfoldable pub summaryAt : List ℕ → ℕ → Summary
+summaryAt image a = summaryFrom (decodeAt image a) a
+
+unfoldable pub nextAt : List ℕ → ℕ → ℕ
+nextAt image a = (a + sizeFrom (decodeAt image a)) % 65536
+
+unfoldable pub costAt : List ℕ → ℕ → ℕ
+costAt image a = cyclesOf (getD image a 0)
+
+-- a rule with its number
+pub record Rule : Type 0 where
+  pub number : ℕ
+  pub formula : Formula
+
+-- the rules at an address with an entry, lowest number first
+unfoldable pub rulesAt : Certificate → List ℕ → ℕ → List Rule
+rulesAt C image a =
+    let S = summaryAt image a in
+    let next = nextAt image a in
+    let cost = costAt image a in
+    record { number = 21; formula = rule21 C a S next }
+    ∷ record { number = 22; formula = rule22 C a S }
+    ∷ record { number = 23; formula = rule23 C a S }
+    ∷ record { number = 24; formula = rule24 C a S }
+    ∷ record { number = 25; formula = rule25 C a S next }
+    ∷ record { number = 26; formula = rule26 C a S next }
+    ∷ record { number = 27; formula = rule27 C a S cost next }
+    ∷ []
+
+-- the first rule of a list that is broken, or 0
+unfoldable pub firstBroken : List Rule → ℕ
+firstBroken [] = 0
+firstBroken (r ∷ rs) = elim (decide (r .formula)) [ true ↦ firstBroken rs | false ↦ r .number ]
+
+-- the lowest number that is broken at an address; where no instruction starts, none is
+unfoldable pub numberAt : Certificate → List ℕ → ℕ → ℕ
+numberAt C image a = elim (eqb (C .routine a) 0) [ true ↦ 0 | false ↦ firstBroken (rulesAt C image a) ]
+
+-- the n addresses from a on
+unfoldable pub scan : Certificate → List ℕ → ℕ → ℕ → Verdict
+scan C image zero a = Accepted
+scan C image (suc n) a =
+    elim (eqb (numberAt C image a) 0) [ true ↦ scan C image n (a + 1) | false ↦ Refused (numberAt C image a) (romAddr a) ]
+
+unfoldable pub verdictOn : Certificate → List ℕ → Verdict
+verdictOn C image = elim (decide (rule20 C image)) [ true ↦ scan C image romEnd 0 | false ↦ Refused 20 (romAddr 0) ]
+
+unfoldable pub verdictOf : List ℕ → List ℕ → Verdict
+verdictOf image cert =
+    pick (eqb (length image) romEnd && eqb (length cert) certificateLength) (verdictOn (certificateOf cert) image)
+    (Refused 7 (romAddr 0))
