@@ -1,4 +1,4 @@
--- The FLAGS register (D5H, chapter 4 and 6): bit 7 is C, bit 6 Z, bit 5 S, bit 4 V. And the 16 conditions of table 6-6 on it.
+-- The FLAGS register (D5H; its page in chapter 4, and chapter 6): bit 7 is C, bit 6 Z, bit 5 S, bit 4 V; and the 16 conditions of table 6-6.
 -- Assumes nothing.
 use Prim.Native.Nat.{ℕ, _+_, _/_, _%_}
 use mathlib.Core.Bool.{Bool, Bool·beq, true, false, not, _&&_, _||_}
@@ -31,7 +31,7 @@ update f (Carry c) = flagsByte c (zeroFlag f) (signFlag f) (overflowFlag f)
 update f (Result z s v) = flagsByte (carry f) z s v
 update f (CarryResult c z s v) = flagsByte c z s v
 
--- RCF, SCF, CCF (c is C before)
+-- pages RCF, SCF, CCF: C becomes 0, 1, its opposite; the other flags are not named
 abbrev pub resetCarry : FlagUpdate
 resetCarry = Carry false
 
@@ -41,11 +41,10 @@ setCarry = Carry true
 abbrev pub complementCarry : Bool → FlagUpdate
 complementCarry c = Carry (not c)
 
--- the condition with this number, of C, Z, S, V (table 6-6; GE, LT, GT, LE as 01 settles them)
-unfoldable pub conditionOn : ℕ → Bool → Bool → Bool → Bool → Bool
-conditionOn number c z s v =
-    choose number
-    ((0, false)  -- F
+-- the conditions of C, Z, S, V by number (table 6-6; GE, LT, GT, LE as 01 settles them)
+abbrev pub conditions : Bool → Bool → Bool → Bool → List (ℕ × Bool)
+conditions c z s v =
+    (0, false)  -- F
     ∷ (1, not (Bool·beq s v))  -- LT
     ∷ (2, z || not (Bool·beq s v))  -- LE
     ∷ (3, c || z)  -- ULE
@@ -60,9 +59,12 @@ conditionOn number c z s v =
     ∷ (12, not v)  -- NOV
     ∷ (13, not s)  -- PL
     ∷ (14, not z)  -- NZ, NE
-    ∷ [])
-    (not c)  -- 15: NC, UGE
+    ∷ (15, not c)  -- NC, UGE
+    ∷ []
 
--- the condition of a FLAGS byte
+unfoldable pub conditionOn : ℕ → Bool → Bool → Bool → Bool → Bool
+conditionOn number c z s v = choose number (conditions c z s v) false
+
+-- the condition with this number, of a FLAGS byte
 unfoldable pub condition : ℕ → ℕ → Bool
 condition cc f = conditionOn (cc % 16) (carry f) (zeroFlag f) (signFlag f) (overflowFlag f)

@@ -1,2 +1,4 @@
+pub mod Cases
 pub mod Flags
+pub mod Laws
 pub mod Operations

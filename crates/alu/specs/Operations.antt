@@ -1,4 +1,5 @@
 -- The operations on one and two bytes with the flags that their pages name (chapter 6, and 01 where a page is misprinted).
+-- 01: V is set when the signed result leaves -128 to 127; C after SUB, SBC, CP is borrow; RL, RLC, RR, RRC set V when bit 7 changes.
 -- Assumes nothing.
 use Prim.Native.Nat.{ℕ, _+_, _*_, _-_, _/_, _%_}
 use mathlib.Core.Bool.{Bool, true, false, not, _||_}
@@ -40,7 +41,7 @@ subtraction x y k =
     let value = (x + 512 - (y + k)) % 256 in
     record { value = value; flags = CarryResult (ltb x (y + k)) (isZero value) (isNegative value) (overflows (offset x + 256 - (offset y + k))) }
 
--- a logical operation's result: V is 0, C is not named
+-- a logical operation's result (pages AND, OR, XOR, TM, TCM, COM): V is 0, C is not named
 unfoldable pub logical : ℕ → Computed
 logical value = record { value = value; flags = Result (isZero value) (isNegative value) false }
 
@@ -70,7 +71,7 @@ stores Tm = false
 stores Cp = false
 stores Xor = true
 
--- INC and DEC: C is not named; V where 7FH becomes 80H, and where 80H becomes 7FH
+-- INC and DEC: C is not named; V of INC where 7FH becomes 80H (01; its page repeats DEC's), of DEC where 80H becomes 7FH
 unfoldable pub increment : ℕ → Computed
 increment x =
     let value = (x + 1) % 256 in
@@ -92,7 +93,7 @@ shiftRight x =
     let value = x / 2 + x / 128 * 128 in
     record { value = value; flags = CarryResult (eqb (x % 2) 1) (isZero value) (isNegative value) false }
 
--- an operation on one byte
+-- an operation on one byte: C is not named by DEC, INC, COM; CLR names no flag
 unfoldable pub modify : Unary → ℕ → Bool → Computed
 modify Dec x c = decrement x
 modify Rlc x c = rotation x (x * 2 % 256 + pick c 1 0) (leb 128 x)

@@ -119,7 +119,8 @@ fn condition_on(number: u8, c: bool, z: bool, s: bool, v: bool) -> bool
         12 => !v,
         13 => !s,
         14 => !z,
-        _ => !c,
+        15 => !c,
+        _ => false,
     }
 }
 

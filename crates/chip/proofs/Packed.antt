@@ -1,18 +1,13 @@
 -- What the packed numbers hold is what the definitions say, at all 256 addresses, by one computation each.
 -- Assumes nothing.
-use mathlib.Core.Path.{_≡_, _∙_, refl, sym}
+use mathlib.Core.Path.{_≡_, refl}
 use mathlib.Core.Bool.{Bool, true}
-use mathlib.Core.List.{List, map}
 use Prim.Native.Nat.{ℕ, _%_, _/_, _*_, _-_, _^_, _<_}
 use lib.Dec.{eqb, ltb}
-use Rattle.base.specs.Choice.{pick, from}
-use Rattle.base.specs.Table.{table-at}
+use Rattle.base.specs.Choice.{pick}
+use Rattle.chip.specs.Cases.{agree}
 use Rattle.chip.specs.Registers.{keptBits, mappedOf}
 use Rattle.chip.specs.Words.{keptWord}
-
--- two functions with the same values at 0 to n - 1
-agree : {A : Type 0} (f g : ℕ → A) (d : A) (n : ℕ) → map f (from n 0) ≡ map g (from n 0) → (k : ℕ) → k < n → f k ≡ g k
-agree f g d n e k h = sym (table-at f d n (map f (from n 0)) refl k h) ∙ table-at g d n (map f (from n 0)) e k h
 
 abbrev packedKept : ℕ → ℕ
 packedKept n = keptWord (n / 8) / 2 ^ (n % 8 * 8) % 256

@@ -1,0 +1,20 @@
+-- What holds of every cell of a list, and stays so when one is stored.
+-- Assumes nothing.
+use mathlib.Core.List.{List, [], _∷_}
+use Prim.Native.Nat.{ℕ, zero, suc, _<_}
+use lib.ListN.{getD, set}
+
+-- P holds of each place and what stands there
+abbrev pub Cells : (ℕ → ℕ → Type 0) → List ℕ → Type 0
+Cells P xs = (k : ℕ) → P k (getD xs k 0)
+
+pub set-cells : (P : ℕ → ℕ → Type 0) (xs : List ℕ) (a x : ℕ) → Cells P xs → P a x → Cells P (set xs a x)
+set-cells P [] a x h p k = h k
+set-cells P (y ∷ l) zero x h p zero = p
+set-cells P (y ∷ l) zero x h p (suc k) = h (suc k)
+set-cells P (y ∷ l) (suc a) x h p zero = h zero
+set-cells P (y ∷ l) (suc a) x h p (suc k) = set-cells (λ (i v : ℕ). P (suc i) v) l a x (λ (i : ℕ). h (suc i)) p k
+
+-- every cell holds a byte
+abbrev pub Bytes : List ℕ → Type 0
+Bytes = Cells (λ (k x : ℕ). x < 256)

@@ -1,7 +1,10 @@
 pub mod Bits
+pub mod Cases
 pub mod Cells
+pub mod InterruptLaws
 pub mod Interrupts
 pub mod Laws
 pub mod Registers
 pub mod Reset
+pub mod ResetLaws
 pub mod Words

@@ -50,13 +50,14 @@ loadOf regs r a =
 abbrev pub writtenF7 : ℕ → ℕ → ℕ
 writtenF7 old v = pick (eqb (v % 2) 1) (bitAnd v 0xF7) (bitOr (bitAnd v 0xF7) (bitAnd old 0x08))
 
--- what a write of v asks for at a control register that holds old; of a pending bit (D2.0, E8.0, E8.2, F3.0): old AND written
+-- what a write of v asks for where a register that holds old does not simply take it; of a pending bit (D2.0, E8.0, E8.2, F3.0): old AND written
+abbrev pub writtenRows : ℕ → ℕ → List (ℕ × ℕ)
+writtenRows old v =
+    (0xD2, bitAnd v (bitOr old 0xFE)) ∷ (0xE8, bitAnd v (bitOr old 0xFA)) ∷ (0xF3, bitAnd v (bitOr old 0xFE))
+    ∷ (0xF7, writtenF7 old v) ∷ []
+
 unfoldable pub writtenOf : ℕ → ℕ → ℕ → ℕ
-writtenOf a old v =
-    choose a
-    ((0xD2, bitAnd v (bitOr old 0xFE)) ∷ (0xE8, bitAnd v (bitOr old 0xFA)) ∷ (0xF3, bitAnd v (bitOr old 0xFE))
-    ∷ (0xF7, writtenF7 old v) ∷ [])
-    v
+writtenOf a old v = choose a (writtenRows old v) v
 
 -- what a write of v leaves at a, which holds old: v in RAM, old where no bit is kept, else the kept bits
 unfoldable pub keptOf : ℕ → ℕ → ℕ → ℕ

@@ -17,6 +17,7 @@ pub fn mapped(a: RegAddr) -> bool
     (0x39C0FC7FA37u64 >> (n - 0xD0)) % 2 == 1
 }
 
+// The kept bits of addresses 8 * k to 8 * k + 7, lowest address lowest.
 fn kept_word(k: u8) -> u64
     ensures { λ r. ⌜ r ≡ keptWord k ⌝ }
 {
@@ -32,7 +33,7 @@ fn kept_word(k: u8) -> u64
 }
 
 // The bits that address n keeps.
-pub fn kept_bits(n: u8) -> u8
+fn kept_bits(n: u8) -> u8
     ensures { λ r. ⌜ r ≡ keptBits n ⌝ }
 {
     let k = n % 8 * 8;
@@ -84,7 +85,7 @@ fn written(n: u8, old: u8, v: u8) -> u8
 }
 
 // What a write of v leaves at a, which holds old.
-pub fn kept(a: RegAddr, old: u8, v: u8) -> u8
+fn kept(a: RegAddr, old: u8, v: u8) -> u8
     ensures { λ r. ⌜ r ≡ keptOf (a .0) old v ⌝ }
 {
     let n = a.0;
@@ -98,6 +99,7 @@ pub fn kept(a: RegAddr, old: u8, v: u8) -> u8
     written(n, old, v) & bits
 }
 
+// Writes v at a.
 pub fn store(regs: &mut [u8; 256], a: RegAddr, v: u8)
     ensures { λ _. ⌜ now (regs .exit) ≡ storeOf (now (regs .entry)) (a .0) v ⌝ }
 {
@@ -106,13 +108,14 @@ pub fn store(regs: &mut [u8; 256], a: RegAddr, v: u8)
     regs[i] = x;
 }
 
-// SYM.2
+// The interrupt enable, SYM.2.
 pub fn interrupts_enabled(regs: &[u8; 256]) -> bool
     ensures { λ r. ⌜ r ≡ interruptsEnabled (now (regs .entry)) ⌝ }
 {
     regs[0xDF] / 4 % 2 == 1
 }
 
+// SYM.2 becomes on: EI, DI, interrupt entry, IRET.
 pub fn set_interrupts(regs: &mut [u8; 256], on: bool)
     ensures { λ _. ⌜ now (regs .exit) ≡ setInterruptsOf (now (regs .entry)) on ⌝ }
 {

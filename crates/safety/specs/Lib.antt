@@ -1,1 +1,4 @@
+pub mod Accepted
+pub mod Facts
+pub mod Invariant
 pub mod Statement

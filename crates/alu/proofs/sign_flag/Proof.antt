@@ -1,11 +1,10 @@
-use Rattle.alu.specs.Flags.{signFlag}
+-- `alu::sign_flag` meets its contract.
+-- Assumes nothing.
 use mathlib.Core.Path.{refl}
+use Rattle.alu.specs.Flags.{signFlag}
 use Rattle.alu.proofs.sign_flag.Statement.{statement}
 use Rattle.alu.proofs.sign_flag.Tie as tie
-use Rattle.alu.proofs.sign_flag.Reads as reads
-use Rattle.alu.proofs.sign_flag.Lts as lts
 
--- src/lib.rt:45:1
 returns : tie.Need-returns
 unfolding signFlag
 returns c = refl

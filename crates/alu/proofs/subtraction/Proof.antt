@@ -1,53 +1,40 @@
+-- `alu::subtraction` meets its contract.
+-- Assumes nothing.
 use Prim.Native.Nat.{_<_}
 use native.Mathlib.Omega.{arith}
+use borrow.Author.Needs.{needs}
 use Rattle.base.specs.Wrap.{wrap-sub-8, wrap-sub-two-8}
 use Rattle.alu.specs.Operations.{subtraction}
-use borrow.Author.Needs.{needs}
 use Rattle.alu.proofs.subtraction.Statement.{statement}
 use Rattle.alu.proofs.subtraction.Tie as tie
-use Rattle.alu.proofs.subtraction.Reads as reads
-use Rattle.alu.proofs.subtraction.Lts as lts
-use Rattle.alu.proofs.offset.Reads as offset-reads
-use Rattle.alu.proofs.overflows.Reads as overflows-reads
-use Rattle.std.proofs.num.wrapping_sub_u8.Reads as wrapping-sub-u8-reads
 
--- src/lib.rt:163:9
 wrapping-sub-u8-requires : tie.Need-wrapping-sub-u8-requires
 wrapping-sub-u8-requires c κs = search needs
 
--- src/lib.rt:164:9
 wrapping-sub-u8-requires-2 : tie.Need-wrapping-sub-u8-requires-2
 wrapping-sub-u8-requires-2 c κs = search needs
 
--- src/lib.rt:165:26
 add-c : tie.Need-add-c
 add-c c = search needs
 
--- src/lib.rt:166:23
 offset-requires : tie.Need-offset-requires
 offset-requires c κs = search needs
 
--- src/lib.rt:166:23
 add-overflows : tie.Need-add-overflows
 add-overflows c = search needs
 
--- src/lib.rt:166:42
 offset-requires-2 : tie.Need-offset-requires-2
 offset-requires-2 c κs = search needs
 
--- src/lib.rt:166:42
 add-overflows-2 : tie.Need-add-overflows-2
 add-overflows-2 c = search needs
 
--- src/lib.rt:166:23
 sub-overflows : tie.Need-sub-overflows
 sub-overflows c = search needs
 
--- src/lib.rt:166:9
 overflows-requires : tie.Need-overflows-requires
 overflows-requires c κs = search needs
 
--- src/lib.rt:159:1
 returns : tie.Need-returns
 unfolding subtraction
 returns c =

@@ -1,75 +1,55 @@
-use Rattle.alu.specs.Flags.{update}
+-- `alu::update` meets its contract.
+-- Assumes nothing.
 use borrow.Author.Needs.{needs}
+use Rattle.alu.specs.Flags.{update}
 use Rattle.alu.proofs.update.Statement.{statement}
 use Rattle.alu.proofs.update.Tie as tie
-use Rattle.alu.proofs.update.Reads as reads
-use Rattle.alu.proofs.update.Lts as lts
-use Rattle.alu.proofs.carry.Reads as carry-reads
-use Rattle.alu.proofs.flags_byte.Reads as flags-byte-reads
-use Rattle.alu.proofs.overflow_flag.Reads as overflow-flag-reads
-use Rattle.alu.proofs.sign_flag.Reads as sign-flag-reads
-use Rattle.alu.proofs.zero_flag.Reads as zero-flag-reads
 
--- src/lib.rt:69:34
 enum-told : tie.Need-enum-told
 enum-told c = search needs
 
--- src/lib.rt:70:27
 enum-known-named : tie.Need-enum-known-named
 enum-known-named c = search needs
 
--- src/lib.rt:70:47
 zero-flag-requires : tie.Need-zero-flag-requires
 zero-flag-requires c κs = search needs
 
--- src/lib.rt:70:65
 sign-flag-requires : tie.Need-sign-flag-requires
 sign-flag-requires c κs = search needs
 
--- src/lib.rt:70:83
 overflow-flag-requires : tie.Need-overflow-flag-requires
 overflow-flag-requires c κs = search needs
 
--- src/lib.rt:70:33
 flags-byte-requires : tie.Need-flags-byte-requires
 flags-byte-requires c κs = search needs
 
--- src/lib.rt:71:28
 enum-known-named-2 : tie.Need-enum-known-named-2
 enum-known-named-2 c = search needs
 
--- src/lib.rt:71:51
 carry-requires : tie.Need-carry-requires
 carry-requires c κs = search needs
 
--- src/lib.rt:71:40
 flags-byte-requires-2 : tie.Need-flags-byte-requires-2
 flags-byte-requires-2 c κs = search needs
 
--- src/lib.rt:72:33
 enum-known-named-3 : tie.Need-enum-known-named-3
 enum-known-named-3 c = search needs
 
--- src/lib.rt:72:48
 flags-byte-requires-3 : tie.Need-flags-byte-requires-3
 flags-byte-requires-3 c κs = search needs
 
--- src/lib.rt:65:1
 returns : tie.Need-returns
 unfolding update
 returns c = simp (c .enum-told .given .1)
 
--- src/lib.rt:65:1
 returns-2 : tie.Need-returns-2
 unfolding update
 returns-2 c = simp (c .flags-byte .ensures, c .before .overflow-flag .ensures, c .before .before .sign-flag .ensures, c .before .before .before .zero-flag .ensures, c .before .before .before .before .before .named .given .1)
 
--- src/lib.rt:65:1
 returns-3 : tie.Need-returns-3
 unfolding update
 returns-3 c = simp (c .flags-byte2 .ensures, c .before .carry .ensures, c .before .before .before .named2 .given .1)
 
--- src/lib.rt:65:1
 returns-4 : tie.Need-returns-4
 unfolding update
 returns-4 c = simp (c .flags-byte3 .ensures, c .before .before .named3 .given .1)

@@ -1,11 +1,10 @@
-use Rattle.alu.specs.Flags.{zeroFlag}
+-- `alu::zero_flag` meets its contract.
+-- Assumes nothing.
 use mathlib.Core.Path.{refl}
+use Rattle.alu.specs.Flags.{zeroFlag}
 use Rattle.alu.proofs.zero_flag.Statement.{statement}
 use Rattle.alu.proofs.zero_flag.Tie as tie
-use Rattle.alu.proofs.zero_flag.Reads as reads
-use Rattle.alu.proofs.zero_flag.Lts as lts
 
--- src/lib.rt:39:1
 returns : tie.Need-returns
 unfolding zeroFlag
 returns c = refl

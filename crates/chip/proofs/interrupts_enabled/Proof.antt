@@ -5,8 +5,6 @@ use Rattle.chip.specs.Interrupts.{interruptsEnabled}
 use borrow.Author.Needs.{needs}
 use Rattle.chip.proofs.interrupts_enabled.Statement.{statement}
 use Rattle.chip.proofs.interrupts_enabled.Tie as tie
-use Rattle.chip.proofs.interrupts_enabled.Reads as reads
-use Rattle.chip.proofs.interrupts_enabled.Lts as lts
 
 element-copy-out-result : tie.Need-element-copy-out-result
 element-copy-out-result c = search needs

@@ -1,15 +1,10 @@
 -- `chip::kept` meets its contract.
 -- Assumes nothing.
-use mathlib.Core.Path.{sym, _∙_}
 use borrow.Author.Tests.{lt-ltb, le-ltb, eq-eqb, ne-eqb}
 use Rattle.chip.specs.Registers.{keptOf}
 use borrow.Author.Needs.{needs}
 use Rattle.chip.proofs.kept.Statement.{statement}
 use Rattle.chip.proofs.kept.Tie as tie
-use Rattle.chip.proofs.kept.Reads as reads
-use Rattle.chip.proofs.kept.Lts as lts
-use Rattle.chip.proofs.kept_bits.Reads as kept-bits-reads
-use Rattle.chip.proofs.written.Reads as written-reads
 
 returns : tie.Need-returns
 unfolding keptOf

@@ -4,9 +4,6 @@ use Rattle.chip.proofs.Packed.{kept-at}
 use borrow.Author.Needs.{needs}
 use Rattle.chip.proofs.kept_bits.Statement.{statement}
 use Rattle.chip.proofs.kept_bits.Tie as tie
-use Rattle.chip.proofs.kept_bits.Reads as reads
-use Rattle.chip.proofs.kept_bits.Lts as lts
-use Rattle.chip.proofs.kept_word.Reads as kept-word-reads
 
 mul-k : tie.Need-mul-k
 mul-k c = search needs

@@ -3,8 +3,6 @@
 use Rattle.base.specs.Choice.{choose-miss}
 use Rattle.chip.proofs.kept_word.Statement.{statement}
 use Rattle.chip.proofs.kept_word.Tie as tie
-use Rattle.chip.proofs.kept_word.Reads as reads
-use Rattle.chip.proofs.kept_word.Lts as lts
 
 returns : tie.Need-returns
 returns c = simp (c .match .keys1)

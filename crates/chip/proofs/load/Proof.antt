@@ -6,9 +6,6 @@ use Rattle.chip.specs.Registers.{loadOf}
 use borrow.Author.Needs.{needs}
 use Rattle.chip.proofs.load.Statement.{statement}
 use Rattle.chip.proofs.load.Tie as tie
-use Rattle.chip.proofs.load.Reads as reads
-use Rattle.chip.proofs.load.Lts as lts
-use Rattle.chip.proofs.kept_bits.Reads as kept-bits-reads
 
 cast-i : tie.Need-cast-i
 cast-i c = search needs

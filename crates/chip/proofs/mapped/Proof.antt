@@ -5,8 +5,6 @@ use Rattle.chip.proofs.Packed.{mapped-at}
 use borrow.Author.Needs.{needs}
 use Rattle.chip.proofs.mapped.Statement.{statement}
 use Rattle.chip.proofs.mapped.Tie as tie
-use Rattle.chip.proofs.mapped.Reads as reads
-use Rattle.chip.proofs.mapped.Lts as lts
 
 returns : tie.Need-returns
 returns c = simp (← (mapped-at (c .before .args .a .0) (search needs)), lt-ltb _ _ (c .if1 .taken))

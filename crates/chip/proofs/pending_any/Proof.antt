@@ -4,9 +4,6 @@ use Rattle.chip.specs.Interrupts.{pendingAny}
 use borrow.Author.Needs.{needs}
 use Rattle.chip.proofs.pending_any.Statement.{statement}
 use Rattle.chip.proofs.pending_any.Tie as tie
-use Rattle.chip.proofs.pending_any.Reads as reads
-use Rattle.chip.proofs.pending_any.Lts as lts
-use Rattle.chip.proofs.pending_edge.Reads as pending-edge-reads
 
 element-copy-out-result : tie.Need-element-copy-out-result
 element-copy-out-result c = search needs

@@ -5,8 +5,6 @@ use Rattle.chip.specs.Interrupts.{pendingEdge}
 use borrow.Author.Needs.{needs}
 use Rattle.chip.proofs.pending_edge.Statement.{statement}
 use Rattle.chip.proofs.pending_edge.Tie as tie
-use Rattle.chip.proofs.pending_edge.Reads as reads
-use Rattle.chip.proofs.pending_edge.Lts as lts
 
 element-copy-out-result : tie.Need-element-copy-out-result
 element-copy-out-result c = search needs

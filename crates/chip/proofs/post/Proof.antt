@@ -4,9 +4,6 @@ use Rattle.chip.specs.Interrupts.{raiseOf, postOf}
 use borrow.Author.Needs.{needs}
 use Rattle.chip.proofs.post.Statement.{statement}
 use Rattle.chip.proofs.post.Tie as tie
-use Rattle.chip.proofs.post.Reads as reads
-use Rattle.chip.proofs.post.Lts as lts
-use Rattle.chip.proofs.raise.Reads as raise-reads
 
 returns : tie.Need-returns
 unfolding postOf raiseOf

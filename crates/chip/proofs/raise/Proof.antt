@@ -4,8 +4,6 @@ use Rattle.chip.specs.Interrupts.{raiseOf}
 use borrow.Author.Needs.{needs}
 use Rattle.chip.proofs.raise.Statement.{statement}
 use Rattle.chip.proofs.raise.Tie as tie
-use Rattle.chip.proofs.raise.Reads as reads
-use Rattle.chip.proofs.raise.Lts as lts
 
 cast-i : tie.Need-cast-i
 cast-i c = search needs

@@ -5,8 +5,6 @@ use Rattle.chip.specs.Reset.{resetRegisters}
 use borrow.Author.Needs.{needs}
 use Rattle.chip.proofs.reset_registers.Statement.{statement}
 use Rattle.chip.proofs.reset_registers.Tie as tie
-use Rattle.chip.proofs.reset_registers.Reads as reads
-use Rattle.chip.proofs.reset_registers.Lts as lts
 
 array-write-regs : tie.Need-array-write-regs
 array-write-regs c = search needs

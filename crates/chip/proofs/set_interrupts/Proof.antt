@@ -5,8 +5,6 @@ use Rattle.chip.specs.Interrupts.{setInterruptsOf}
 use borrow.Author.Needs.{needs}
 use Rattle.chip.proofs.set_interrupts.Statement.{statement}
 use Rattle.chip.proofs.set_interrupts.Tie as tie
-use Rattle.chip.proofs.set_interrupts.Reads as reads
-use Rattle.chip.proofs.set_interrupts.Lts as lts
 
 element-write-regs : tie.Need-element-write-regs
 element-write-regs c = search needs

@@ -4,9 +4,6 @@ use Rattle.chip.specs.Registers.{storeOf}
 use borrow.Author.Needs.{needs}
 use Rattle.chip.proofs.store.Statement.{statement}
 use Rattle.chip.proofs.store.Tie as tie
-use Rattle.chip.proofs.store.Reads as reads
-use Rattle.chip.proofs.store.Lts as lts
-use Rattle.chip.proofs.kept.Reads as kept-reads
 
 cast-i : tie.Need-cast-i
 cast-i c = search needs

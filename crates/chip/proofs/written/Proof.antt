@@ -5,9 +5,6 @@ use Rattle.chip.specs.Registers.{writtenOf}
 use borrow.Author.Needs.{needs}
 use Rattle.chip.proofs.written.Statement.{statement}
 use Rattle.chip.proofs.written.Tie as tie
-use Rattle.chip.proofs.written.Reads as reads
-use Rattle.chip.proofs.written.Lts as lts
-use Rattle.chip.proofs.written_f7.Reads as written-f7-reads
 
 written-f7-requires : tie.Need-written-f7-requires
 written-f7-requires c κs = search needs

@@ -3,8 +3,6 @@
 use borrow.Author.Tests.{eq-eqb, ne-eqb}
 use Rattle.chip.proofs.written_f7.Statement.{statement}
 use Rattle.chip.proofs.written_f7.Tie as tie
-use Rattle.chip.proofs.written_f7.Reads as reads
-use Rattle.chip.proofs.written_f7.Lts as lts
 
 returns : tie.Need-returns
 returns c = simp (eq-eqb _ _ (c .if1 .taken))

@@ -1,0 +1,286 @@
+-- Laws of the operations, the flags and the conditions.
+-- Assumes nothing.
+use Prim.Native.Nat.{ℕ, _+_, _-_, _%_, _<_, _≤_}
+use mathlib.Core.Path.{_≡_, refl, sym, ap, _∙_}
+use mathlib.Core.Logic.{_≢_, ⊎-elim}
+use mathlib.Core.Bool.{Bool, Bool·beq, true, false, not, _&&_, _||_, or-true, or-false}
+use native.Mathlib.Nat.{add-zero}
+use native.Mathlib.Omega.{arith}
+use lib.Dec.{eqb, leb, ltb}
+use lib.Bits.{and-le-l, and-le-r, or-lt, xor-lt}
+use borrow.Author.Tests.{eqb-true, ltb-true, lt-ltb, le-ltb, le-leb, lt-leb, eq-eqb, ne-eqb}
+use Rattle.base.specs.Choice.{pick}
+use Rattle.base.specs.Formula.{sound, same?, le?}
+use Rattle.base.specs.Formula.Formula.{test, forallBelow}
+use Rattle.isa.specs.declared.Alu.{Alu}
+use Rattle.isa.specs.declared.Alu.the-variants.{Add, Adc, Sub, Sbc, Or, And, Tcm, Tm, Cp, Xor}
+use Rattle.isa.specs.declared.Unary.{Unary}
+use Rattle.isa.specs.declared.Unary.the-variants.{Dec, Rlc, Inc, Com, Rl, Clr, Rrc, Sra, Rr}
+use Rattle.alu.specs.declared.FlagUpdate.{FlagUpdate}
+use Rattle.alu.specs.declared.FlagUpdate.the-variants.{Unchanged, Carry, Result, CarryResult}
+use Rattle.alu.specs.Flags.{carry, zeroFlag, signFlag, overflowFlag, flagsByte, update, conditionOn, condition}
+use Rattle.alu.specs.Operations.{operate, addition, subtraction, logical, offset, overflows, modify, increment, decrement, rotation, shiftRight, compareFlags}
+
+-- a test of four flags that holds at all 16 settings, which antt computes, holds at each
+abbrev both : (Bool → Bool) → Bool
+both f = f true && f false
+
+abbrev everySetting : (Bool → Bool → Bool → Bool → Bool) → Bool
+everySetting f = both (λ c. both (λ z. both (λ s. both (λ v. f c z s v))))
+
+and-first : (a b : Bool) → (a && b) ≡ true → a ≡ true
+and-first true b e = refl
+and-first false b e = e
+
+and-second : (a b : Bool) → (a && b) ≡ true → b ≡ true
+and-second true b e = e
+and-second false true e = refl
+and-second false false e = e
+
+both-at : (f : Bool → Bool) → both f ≡ true → (b : Bool) → f b ≡ true
+both-at f e true = and-first (f true) (f false) e
+both-at f e false = and-second (f true) (f false) e
+
+at-setting : (f : Bool → Bool → Bool → Bool → Bool) → everySetting f ≡ true → (c z s v : Bool) → f c z s v ≡ true
+at-setting f e c z s v =
+    both-at (λ v. f c z s v)
+    (both-at (λ s. both (λ v. f c z s v))
+    (both-at (λ z. both (λ s. both (λ v. f c z s v)))
+    (both-at (λ c. both (λ z. both (λ s. both (λ v. f c z s v)))) e c) z) s) v
+
+same-bool : (a b : Bool) → Bool·beq a b ≡ true → a ≡ b
+same-bool true true e = refl
+same-bool true false e = sym e
+same-bool false true e = e
+same-bool false false e = refl
+
+-- the four flags of a FLAGS byte
+pub record Setting : Type 0 where
+  pub c : Bool
+  pub z : Bool
+  pub s : Bool
+  pub v : Bool
+
+abbrev pub setting : Bool → Bool → Bool → Bool → Setting
+setting c z s v = record { c = c; z = z; s = s; v = v }
+
+abbrev pub settingOf : ℕ → Setting
+settingOf f = setting (carry f) (zeroFlag f) (signFlag f) (overflowFlag f)
+
+abbrev sameSetting : Setting → Setting → Bool
+sameSetting a b = Bool·beq (a .c) (b .c) && (Bool·beq (a .z) (b .z) && (Bool·beq (a .s) (b .s) && Bool·beq (a .v) (b .v)))
+
+same-setting : (a b : Setting) → sameSetting a b ≡ true → a ≡ b
+same-setting a b e =
+    let e1 = and-second (Bool·beq (a .c) (b .c)) _ e in
+    let e2 = and-second (Bool·beq (a .z) (b .z)) _ e1 in
+    let hc : a .c ≡ b .c = same-bool _ _ (and-first _ _ e) in
+    let hz : a .z ≡ b .z = same-bool _ _ (and-first _ _ e1) in
+    let hs : a .s ≡ b .s = same-bool _ _ (and-first _ _ e2) in
+    let hv : a .v ≡ b .v = same-bool _ _ (and-second (Bool·beq (a .s) (b .s)) _ e2) in
+    let joined : setting (a .c) (a .z) (a .s) (a .v) ≡ setting (b .c) (b .z) (b .s) (b .v) = rw (hc, hz, hs, hv) in
+    joined
+
+-- the byte of a setting holds it, is a byte, and has 0 in bits 3 to 0
+setting-byte : (c z s v : Bool) → settingOf (flagsByte c z s v) ≡ setting c z s v
+unfolding carry zeroFlag signFlag overflowFlag flagsByte
+setting-byte c z s v =
+    same-setting _ _
+    (at-setting (λ c z s v. sameSetting (settingOf (flagsByte c z s v)) (setting c z s v)) refl c z s v)
+
+byte-bound : (c z s v : Bool) → flagsByte c z s v < 256
+unfolding flagsByte
+byte-bound c z s v = ltb-true _ _ (at-setting (λ c z s v. ltb (flagsByte c z s v) 256) refl c z s v)
+
+byte-low : (c z s v : Bool) → flagsByte c z s v % 16 ≡ 0
+unfolding flagsByte
+byte-low c z s v = eqb-true _ _ (at-setting (λ c z s v. eqb (flagsByte c z s v % 16) 0) refl c z s v)
+
+-- the flags that an operation names, over those before it
+abbrev pub after : FlagUpdate → Setting → Setting
+after Unchanged o = o
+after (Carry c) o = setting c (o .z) (o .s) (o .v)
+after (Result z s v) o = setting (o .c) z s v
+after (CarryResult c z s v) o = setting c z s v
+
+pub update-setting : (f : ℕ) (u : FlagUpdate) → settingOf (update f u) ≡ after u (settingOf f)
+unfolding update
+update-setting f Unchanged = refl
+update-setting f (Carry c) = setting-byte c (zeroFlag f) (signFlag f) (overflowFlag f)
+update-setting f (Result z s v) = setting-byte (carry f) z s v
+update-setting f (CarryResult c z s v) = setting-byte c z s v
+
+pub update-carry : (f : ℕ) (u : FlagUpdate) → carry (update f u) ≡ after u (settingOf f) .c
+update-carry f u = ap (λ (w : Setting). w .c) (update-setting f u)
+
+pub update-zero : (f : ℕ) (u : FlagUpdate) → zeroFlag (update f u) ≡ after u (settingOf f) .z
+update-zero f u = ap (λ (w : Setting). w .z) (update-setting f u)
+
+pub update-sign : (f : ℕ) (u : FlagUpdate) → signFlag (update f u) ≡ after u (settingOf f) .s
+update-sign f u = ap (λ (w : Setting). w .s) (update-setting f u)
+
+pub update-overflow : (f : ℕ) (u : FlagUpdate) → overflowFlag (update f u) ≡ after u (settingOf f) .v
+update-overflow f u = ap (λ (w : Setting). w .v) (update-setting f u)
+
+pub update-bound : (f : ℕ) (u : FlagUpdate) → f < 256 → update f u < 256
+unfolding update
+update-bound f Unchanged h = h
+update-bound f (Carry c) h = byte-bound c (zeroFlag f) (signFlag f) (overflowFlag f)
+update-bound f (Result z s v) h = byte-bound (carry f) z s v
+update-bound f (CarryResult c z s v) h = byte-bound c z s v
+
+pub update-unchanged : (f : ℕ) → update f Unchanged ≡ f
+unfolding update
+update-unchanged f = refl
+
+pub update-low : (f : ℕ) (u : FlagUpdate) → (u ≡ Unchanged → ⊥) → update f u % 16 ≡ 0
+unfolding update
+update-low f Unchanged h = absurd (h refl)
+update-low f (Carry c) h = byte-low c (zeroFlag f) (signFlag f) (overflowFlag f)
+update-low f (Result z s v) h = byte-low (carry f) z s v
+update-low f (CarryResult c z s v) h = byte-low c z s v
+
+-- conditions: F never holds, T always does, and the opposite of a condition below 8 is 8 above it
+pub condition-never : (f : ℕ) → condition 0 f ≡ false
+unfolding condition conditionOn
+condition-never f = refl
+
+pub condition-always : (f : ℕ) → condition 8 f ≡ true
+unfolding condition conditionOn
+condition-always f = refl
+
+opposite : ℕ → Bool → Bool → Bool → Bool → Bool
+opposite n c z s v = Bool·beq (conditionOn (n + 8) c z s v) (not (conditionOn n c z s v))
+
+opposites : (n : ℕ) → n < 8 → everySetting (opposite n) ≡ true
+unfolding opposite conditionOn
+opposites n h = sound (forallBelow 8 (λ n. test (everySetting (opposite n)))) tt n h
+
+pub condition-opposite : (cc f : ℕ) → cc < 8 → condition (cc + 8) f ≡ not (condition cc f)
+unfolding condition opposite
+condition-opposite cc f h =
+    let e : cc % 16 ≡ cc = omega arith in
+    let e8 : (cc + 8) % 16 ≡ cc + 8 = omega arith in
+    rw (e, e8) (same-bool _ _ (at-setting (opposite cc) (opposites cc h) (carry f) (zeroFlag f) (signFlag f) (overflowFlag f)))
+
+-- CP: the flags that it leaves, whatever they were, and the unsigned comparisons that they tell
+pub compare-leaves : (f v k : ℕ) (c : Bool) → update f (operate Cp v k c .flags) ≡ compareFlags v k
+unfolding compareFlags operate subtraction update
+compare-leaves f v k c = refl
+
+pub compare-carry : (v k : ℕ) → carry (compareFlags v k) ≡ ltb v k
+unfolding compareFlags operate subtraction
+compare-carry v k = update-carry 0 (operate Cp v k false .flags) ∙ ap (ltb v) (add-zero k)
+
+difference-zero : (v k : ℕ) → v < 256 → k < 256 → eqb ((v + 512 - (k + 0)) % 256) 0 ≡ eqb v k
+difference-zero v k hv hk =
+    ⊎-elim
+    (λ (e : v ≡ k). let d : (v + 512 - (k + 0)) % 256 ≡ 0 = omega arith in eq-eqb _ _ d ∙ sym (eq-eqb v k e))
+    (λ (n : v ≢ k). ne-eqb _ _ (λ (d : (v + 512 - (k + 0)) % 256 ≡ 0). n (omega arith)) ∙ sym (ne-eqb v k n))
+    (same? v k)
+
+pub compare-zero : (v k : ℕ) → v < 256 → k < 256 → zeroFlag (compareFlags v k) ≡ eqb v k
+unfolding compareFlags operate subtraction
+compare-zero v k hv hk = update-zero 0 (operate Cp v k false .flags) ∙ difference-zero v k hv hk
+
+not-le : (a b : ℕ) → not (leb a b) ≡ ltb b a
+not-le a b = ⊎-elim (λ (h : a ≤ b). rw (le-leb a b h, le-ltb b a h)) (λ (h : b < a). rw (lt-leb a b h, lt-ltb b a h)) (le? a b)
+
+not-lt : (a b : ℕ) → not (ltb a b) ≡ leb b a
+not-lt a b = ⊎-elim (λ (h : b ≤ a). rw (le-ltb a b h, le-leb b a h)) (λ (h : a < b). rw (lt-ltb a b h, lt-leb b a h)) (le? b a)
+
+lt-or-eq : (a b : ℕ) → (ltb a b || eqb a b) ≡ leb a b
+lt-or-eq a b =
+    ⊎-elim (λ (e : a ≡ b). let l : a ≤ b = omega arith in rw (eq-eqb a b e, le-leb a b l) (or-true (ltb a b)))
+    (λ (n : a ≢ b).
+    rw (ne-eqb a b n)
+    (or-false (ltb a b)
+    ∙ ⊎-elim (λ (h : a ≤ b). let l : a < b = omega arith in rw (lt-ltb a b l, le-leb a b h)) (λ (h : b < a). let l : b ≤ a = omega arith in rw (le-ltb a b l, lt-leb a b h)) (le? a b)))
+    (same? a b)
+
+-- C, NC, Z, NZ, ULE, UGT behind CP v,k
+pub compare-lt : (v k : ℕ) → condition 7 (compareFlags v k) ≡ ltb v k
+unfolding condition conditionOn
+compare-lt v k = compare-carry v k
+
+pub compare-ge : (v k : ℕ) → condition 15 (compareFlags v k) ≡ leb k v
+unfolding condition conditionOn
+compare-ge v k = ap not (compare-carry v k) ∙ not-lt v k
+
+pub compare-eq : (v k : ℕ) → v < 256 → k < 256 → condition 6 (compareFlags v k) ≡ eqb v k
+unfolding condition conditionOn
+compare-eq v k hv hk = compare-zero v k hv hk
+
+pub compare-ne : (v k : ℕ) → v < 256 → k < 256 → condition 14 (compareFlags v k) ≡ not (eqb v k)
+unfolding condition conditionOn
+compare-ne v k hv hk = ap not (compare-zero v k hv hk)
+
+pub compare-le : (v k : ℕ) → v < 256 → k < 256 → condition 3 (compareFlags v k) ≡ leb v k
+unfolding condition conditionOn
+compare-le v k hv hk = rw (compare-carry v k, compare-zero v k hv hk) (lt-or-eq v k)
+
+pub compare-gt : (v k : ℕ) → v < 256 → k < 256 → condition 11 (compareFlags v k) ≡ ltb k v
+compare-gt v k hv hk =
+    condition-opposite 3 (compareFlags v k) (omega arith) ∙ (ap not (compare-le v k hv hk) ∙ not-le v k)
+
+-- values are bytes
+pub operate-bound : (op : Alu) (x y : ℕ) (c : Bool) → x < 256 → y < 256 → operate op x y c .value < 256
+unfolding operate addition subtraction logical
+operate-bound Add x y c hx hy = omega arith
+operate-bound Adc x y c hx hy = omega arith
+operate-bound Sub x y c hx hy = omega arith
+operate-bound Sbc x y c hx hy = omega arith
+operate-bound Or x y c hx hy = or-lt 8 x y hx hy
+operate-bound And x y c hx hy = omega (arith, and-le-l x y)
+operate-bound Tcm x y c hx hy = omega (arith, and-le-r (255 - x) y)
+operate-bound Tm x y c hx hy = omega (arith, and-le-l x y)
+operate-bound Cp x y c hx hy = omega arith
+operate-bound Xor x y c hx hy = xor-lt 8 x y hx hy
+
+pick-bound : (b : Bool) (w : ℕ) → pick b w 0 ≤ w
+pick-bound true w = omega arith
+pick-bound false w = omega arith
+
+pub modify-bound : (op : Unary) (x : ℕ) (c : Bool) → x < 256 → modify op x c .value < 256
+unfolding modify decrement increment logical rotation shiftRight
+modify-bound Dec x c h = omega arith
+modify-bound Rlc x c h = omega (arith, pick-bound c 1)
+modify-bound Inc x c h = omega arith
+modify-bound Com x c h = omega arith
+modify-bound Rl x c h = omega arith
+modify-bound Clr x c h = omega arith
+modify-bound Rrc x c h = omega (arith, pick-bound c 128)
+modify-bound Sra x c h = omega arith
+modify-bound Rr x c h = omega arith
+
+-- the ranges that the checker relies on
+pub and-destination : (x y : ℕ) (c : Bool) → operate And x y c .value ≤ x
+unfolding operate logical
+and-destination x y c = and-le-l x y
+
+pub and-source : (x y : ℕ) (c : Bool) → operate And x y c .value ≤ y
+unfolding operate logical
+and-source x y c = and-le-r x y
+
+pub increment-value : (x : ℕ) (c : Bool) → x < 255 → modify Inc x c .value ≡ x + 1
+unfolding modify increment
+increment-value x c h = omega arith
+
+pub decrement-value : (x : ℕ) (c : Bool) → 0 < x → x < 256 → modify Dec x c .value ≡ x - 1
+unfolding modify decrement
+decrement-value x c l h = omega arith
+
+pub clear-value : (x : ℕ) (c : Bool) → modify Clr x c .value ≡ 0
+unfolding modify
+clear-value x c = refl
+
+-- V of INC and DEC, which their pages give by value, is the overflow of x + 1 and x - 1
+pub increment-overflow : (x : ℕ) → x < 256 → eqb x 127 ≡ overflows (offset x + offset 1)
+unfolding offset overflows
+increment-overflow x h =
+    same-bool _ _ (sound (forallBelow 256 (λ x. test (Bool·beq (eqb x 127) (overflows (offset x + offset 1))))) tt x h)
+
+pub decrement-overflow : (x : ℕ) → x < 256 → eqb x 128 ≡ overflows (offset x + 256 - offset 1)
+unfolding offset overflows
+decrement-overflow x h =
+    same-bool _ _ (sound (forallBelow 256 (λ x. test (Bool·beq (eqb x 128) (overflows (offset x + 256 - offset 1))))) tt x h)
