@@ -14,6 +14,7 @@ use Rattle.alu.specs.Flags.{condition}
 use Rattle.alu.specs.Operations.{compareFlags}
 use Rattle.action.specs.declared.Operand.{Operand}
 use Rattle.action.specs.declared.Operand.the-variants.{Register, Indirect, Immediate}
+use Rattle.action.specs.declared.CodeAddress.{CodeAddress}
 use Rattle.action.specs.declared.Action.{Action}
 use Rattle.semantics.specs.declared.Mode.{Mode}
 use Rattle.semantics.specs.declared.Mode.the-variants.{Running, Idle, Stopped}
@@ -231,24 +232,36 @@ module _ (C : Certificate) where
     pub refines : Refines a S r (executeOf act image r rec next .regs)
     pub pointers : PointersRight C image (tableOf a S) r rec act
 
--- at most one operand goes through a pointer, and no destination is a number: so it is of every decoded instruction
+-- a number operand is a byte
+abbrev pub Small : Operand → Type 0
+Small (Register a) = Unit {0}
+Small (Indirect p x) = Unit {0}
+Small (Immediate n) = n < 256
+
+-- an offset of 8 bits is a byte
+abbrev pub SmallOffset : CodeAddress → Type 0
+SmallOffset (CodeAddress.Direct a) = Unit {0}
+SmallOffset (CodeAddress.Short p x) = x < 256
+SmallOffset (CodeAddress.Long p x) = Unit {0}
+
+-- at most one operand goes through a pointer, no destination is a number, numbers are bytes: so it is of every decoded instruction
 abbrev pub Shaped : Action → Type 0
-Shaped (Action.Binary op (Register a) s) = Unit {0}
+Shaped (Action.Binary op (Register a) s) = Small s
 Shaped (Action.Binary op (Indirect p x) s) = ⊥
 Shaped (Action.Binary op (Immediate n) s) = ⊥
 Shaped (Action.Modify op (Register a)) = Unit {0}
 Shaped (Action.Modify op (Indirect p x)) = Unit {0}
 Shaped (Action.Modify op (Immediate n)) = ⊥
-Shaped (Action.Load (Register a) s) = Unit {0}
+Shaped (Action.Load (Register a) s) = Small s
 Shaped (Action.Load (Indirect p x) (Register b)) = Unit {0}
 Shaped (Action.Load (Indirect p x) (Indirect q y)) = ⊥
-Shaped (Action.Load (Indirect p x) (Immediate n)) = Unit {0}
+Shaped (Action.Load (Indirect p x) (Immediate n)) = n < 256
 Shaped (Action.Load (Immediate n) s) = ⊥
-Shaped (Action.Push s) = Unit {0}
+Shaped (Action.Push s) = Small s
 Shaped (Action.Pop (Register a)) = Unit {0}
 Shaped (Action.Pop (Indirect p x)) = Unit {0}
 Shaped (Action.Pop (Immediate n)) = ⊥
-Shaped (Action.LoadCode d c) = Unit {0}
+Shaped (Action.LoadCode d c) = SmallOffset c
 Shaped (Action.LoadCodeStep d p up) = Unit {0}
 Shaped Action.External = Unit {0}
 Shaped (Action.Jump cc to) = Unit {0}

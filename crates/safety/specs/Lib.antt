@@ -1,4 +1,5 @@
 pub mod Accepted
 pub mod Facts
 pub mod Invariant
+pub mod Memory
 pub mod Statement
