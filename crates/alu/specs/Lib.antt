@@ -1,4 +1,3 @@
-pub mod Cases
 pub mod Flags
 pub mod Laws
 pub mod Operations

@@ -1,0 +1,194 @@
+-- Logger cases (a) to (l) of 01: what each says, the list, and the theorem that all hold.
+-- Assumes nothing.
+use mathlib.Core.Path.{_≡_, refl, sym, _∙_, ap}
+use mathlib.Core.Bool.{Bool, true, false}
+use mathlib.Core.List.{List, [], _∷_, _++_}
+use Prim.Native.Nat.{ℕ}
+use lib.ListN.{length, getD, replicate, set}
+use Rattle.base.specs.Addresses.{romAddr}
+use Rattle.base.specs.Choice.{pick, choose}
+use Rattle.isa.specs.declared.Alu.{Alu}
+use Rattle.isa.specs.declared.Unary.{Unary}
+use Rattle.chip.specs.Registers.{keptOf}
+use Rattle.alu.specs.declared.FlagUpdate.{FlagUpdate}
+use Rattle.alu.specs.declared.FlagUpdate.the-variants.{Result, CarryResult}
+use Rattle.alu.specs.Operations.{operate, modify}
+use Rattle.semantics.specs.declared.Mode.the-variants.{Running}
+use Rattle.semantics.specs.declared.State.{State}
+use Rattle.semantics.specs.Step.{stepOf}
+use Rattle.certificate.specs.declared.Verdict.{Verdict}
+use Rattle.certificate.specs.declared.Verdict.the-variants.{Accepted, Refused}
+use Rattle.certificate.specs.Layout.{certificateFrom, certificateOf}
+use Rattle.certificate.specs.Verdicts.{verdictOn, verdictOf}
+use Rattle.logger_cases.specs.Gathered.{upTo, certificateBytes, bytes-length, certificate-is}
+use Rattle.logger_cases.specs.Program.{imageWith, entry, cell, row, certificateWith, entry-length, cell-length, row-length}
+use Rattle.logger_cases.specs.Opened.{opened}
+
+-- CALL 0521H stands at 0A47H
+unfoldable pub callImage : List ℕ
+callImage = replicate 0xA47 0xFF ++ (0xF6 ∷ 0x05 ∷ 0x21 ∷ replicate 1462 0xFF)
+
+-- at an address, with SP
+unfoldable pub stateAt : ℕ → ℕ → State
+stateAt pc sp = record { regs = set (replicate 256 0) 0xD9 sp; pc = romAddr pc; mode = Running; cycles = 0 }
+
+pub data Case : Type 0 where
+  -- an operation on two bytes, with the carry before: its value and flags
+  operates : Alu → ℕ → ℕ → Bool → ℕ → FlagUpdate → Case
+  -- on one byte
+  modifies : Unary → ℕ → ℕ → FlagUpdate → Case
+  -- the step at an address of the image with this SP leaves a byte at a register
+  steps : List ℕ → ℕ → ℕ → ℕ → ℕ → Case
+  -- a register that holds a byte is written: what it then holds
+  stores : ℕ → ℕ → ℕ → ℕ → Case
+  -- the verdict on an image and a certificate
+  judges : List ℕ → List ℕ → Verdict → Case
+
+abbrev pub CaseHolds : Case → Type 0
+CaseHolds (operates op x y c v f) = operate op x y c ≡ record { value = v; flags = f }
+CaseHolds (modifies op x v f) = (c : Bool) → modify op x c ≡ record { value = v; flags = f }
+CaseHolds (steps image pc sp a v) = (stepOf image (stateAt pc sp) (replicate 8 0) .stop ≡ 0) × (getD (stepOf image (stateAt pc sp) (replicate 8 0) .state .regs) a 0 ≡ v)
+CaseHolds (stores a old v new) = keptOf a old v ≡ new
+CaseHolds (judges image cert v) = verdictOf image cert ≡ v
+
+abbrev pub AllHold : List Case → Type 0
+AllHold [] = Unit {0}
+AllHold (c ∷ cs) = CaseHolds c × AllHold cs
+
+-- flags: C, Z, S, V; INC names no C
+abbrev pub cases : List Case
+cases =
+    -- (a) ADC 10H, 03H, C=1: 14H
+    operates Alu.Adc 0x10 0x03 true 0x14 (CarryResult false false false false)
+    -- (b) SUB 21H, 90H: 91H, C S V
+    ∷ operates Alu.Sub 0x21 0x90 false 0x91 (CarryResult true false true true)
+    -- (c) SUB 21H, 65H: BCH, C S, V=0
+    ∷ operates Alu.Sub 0x21 0x65 false 0xBC (CarryResult true false true false)
+    -- (d) INC 7FH: 80H, V
+    ∷ modifies Unary.Inc 0x7F 0x80 (Result false true true)
+    -- (e) RL AAH: 55H, C V
+    ∷ modifies Unary.Rl 0xAA 0x55 (CarryResult true false false true)
+    -- (f) SRA 9AH: CDH, C=0
+    ∷ modifies Unary.Sra 0x9A 0xCD (CarryResult false false true false)
+    -- (g) CALL 0521H at 0A47H, SP B2H: B0H holds 0AH, B1H 4AH
+    ∷ steps callImage 0xA47 0xB2 0xB0 0x0A
+    ∷ steps callImage 0xA47 0xB2 0xB1 0x4A
+    -- (h) E8H at 0FH, written 0EH: 0EH
+    ∷ stores 0xE8 0x0F 0x0E 0x0E
+    -- (i) image P
+    ∷ judges (imageWith 0x7B) (certificateWith 364 0xA0) Accepted
+    -- (j) 0128H changed to 3B
+    ∷ judges (imageWith 0x3B) (certificateWith 364 0xA0) (Refused 26 (romAddr 0x128))
+    -- (k) bound 363
+    ∷ judges (imageWith 0x7B) (certificateWith 363 0xA0) (Refused 27 (romAddr 0x120))
+    -- (l) F BBH accepted, BCH refused
+    ∷ judges (imageWith 0x7B) (certificateWith 364 0xBB) Accepted
+    ∷ judges (imageWith 0x7B) (certificateWith 364 0xBC) (Refused 25 (romAddr 0x100))
+    ∷ []
+
+image-length : (j : ℕ) → length (imageWith j) ≡ 4096
+unfolding imageWith
+image-length j = refl
+
+-- the verdict on the bytes is that on the tables
+on-tables : (j bound floor : ℕ) → verdictOf (imageWith j) (certificateWith bound floor)
+    ≡ verdictOn (certificateFrom (upTo 4096 entry) (upTo 256 cell) (upTo 64 (row bound)) floor 0xC0) (imageWith j)
+unfolding verdictOf certificateWith
+on-tables j bound floor =
+    rw (image-length j, bytes-length entry cell (row bound) floor 0xC0 entry-length cell-length (row-length bound), certificate-is entry cell (row bound) floor 0xC0 entry-length cell-length (row-length bound))
+
+-- computed on the tables
+abbrev tables : ℕ → ℕ → ℕ → Verdict
+tables j bound floor = verdictOn (certificateFrom (upTo 4096 entry) (upTo 256 cell) (upTo 64 (row bound)) floor 0xC0) (imageWith j)
+
+case-i : tables 0x7B 364 0xA0 ≡ Accepted
+unfolding opened
+case-i = refl
+
+case-j : tables 0x3B 364 0xA0 ≡ Refused 26 (romAddr 0x128)
+unfolding opened
+case-j = refl
+
+case-k : tables 0x7B 363 0xA0 ≡ Refused 27 (romAddr 0x120)
+unfolding opened
+case-k = refl
+
+case-l : tables 0x7B 364 0xBB ≡ Accepted
+unfolding opened
+case-l = refl
+
+case-l-refused : tables 0x7B 364 0xBC ≡ Refused 25 (romAddr 0x100)
+unfolding opened
+case-l-refused = refl
+
+case-g : CaseHolds (steps callImage 0xA47 0xB2 0xB0 0x0A) × CaseHolds (steps callImage 0xA47 0xB2 0xB1 0x4A)
+unfolding opened callImage stateAt
+case-g = ((refl, refl), (refl, refl))
+
+case-a : CaseHolds (operates Alu.Adc 0x10 0x03 true 0x14 (CarryResult false false false false))
+unfolding opened
+case-a = refl
+
+case-b : CaseHolds (operates Alu.Sub 0x21 0x90 false 0x91 (CarryResult true false true true))
+unfolding opened
+case-b = refl
+
+case-c : CaseHolds (operates Alu.Sub 0x21 0x65 false 0xBC (CarryResult true false true false))
+unfolding opened
+case-c = refl
+
+case-d : CaseHolds (modifies Unary.Inc 0x7F 0x80 (Result false true true))
+unfolding opened
+case-d c = refl
+
+case-e : CaseHolds (modifies Unary.Rl 0xAA 0x55 (CarryResult true false false true))
+unfolding opened
+case-e c = refl
+
+case-f : CaseHolds (modifies Unary.Sra 0x9A 0xCD (CarryResult false false true false))
+unfolding opened
+case-f c = refl
+
+case-h : CaseHolds (stores 0xE8 0x0F 0x0E 0x0E)
+unfolding opened
+case-h = refl
+
+-- the one theorem over the list
+pub all-hold : AllHold cases
+all-hold = (
+  case-a,
+  (
+    case-b,
+    (
+      case-c,
+      (
+        case-d,
+        (
+          case-e,
+          (
+            case-f,
+            (
+              case-g .0,
+              (
+                case-g .1,
+                (
+                  case-h,
+                  (
+                    on-tables 0x7B 364 0xA0 ∙ case-i,
+                    (
+                      on-tables 0x3B 364 0xA0 ∙ case-j,
+                      (
+                        on-tables 0x7B 363 0xA0 ∙ case-k,
+                        (on-tables 0x7B 364 0xBB ∙ case-l, (on-tables 0x7B 364 0xBC ∙ case-l-refused, tt)),
+                      ),
+                    ),
+                  ),
+                ),
+              ),
+            ),
+          ),
+        ),
+      ),
+    ),
+  ),
+)

@@ -1,0 +1,105 @@
+-- A certificate given by tables: the bytes of each entry, register row and routine row in order. Its parts are the tables'.
+-- Assumes nothing.
+use mathlib.Core.Path.{_≡_, refl, sym, _∙_, ap, fun-ext}
+use mathlib.Core.Bool.{Bool, true, false}
+use mathlib.Core.List.{List, [], _∷_, _++_, append-assoc}
+use Prim.Native.Nat.{ℕ, zero, suc, _+_, _*_, _≤_, _<_}
+use native.Mathlib.Omega.{arith}
+use lib.Dec.{T, eqb, ltb, ltb→lt}
+use lib.ListN.{length, getD, take, drop, length-append}
+use lib.Seq.{drop-drop, drop-at, take-at, getD-drop}
+use Rattle.base.specs.Choice.{pick}
+use Rattle.base.specs.Formula.{of-true}
+use Rattle.certificate.specs.Layout.{Certificate, certificateFrom, part, certificateOf}
+
+-- what the table f gives for a, a + 1, .., n of them, one behind the other
+unfoldable pub gathered : ℕ → ℕ → (ℕ → List ℕ) → List ℕ
+gathered zero a f = []
+gathered (suc n) a f = f a ++ gathered n (a + 1) f
+
+-- the table up to n
+abbrev pub upTo : ℕ → (ℕ → List ℕ) → ℕ → List ℕ
+upTo n f k = pick (ltb k n) (f k) []
+
+module _ (w : ℕ) (f : ℕ → List ℕ) (wide : (k : ℕ) → length (f k) ≡ w) where
+  pub gathered-length : (n a : ℕ) → length (gathered n a f) ≡ w * n
+  unfolding gathered
+  gathered-length zero a = omega arith
+  gathered-length (suc n) a =
+      let h = gathered-length n (a + 1) in
+      let e : w + w * n ≡ w * suc n = omega arith in
+      length-append (f a) (gathered n (a + 1) f) ∙ (ap (λ (k : ℕ). k + length (gathered n (a + 1) f)) (wide a) ∙ (ap (λ (k : ℕ). w + k) h ∙ e))
+
+  gathered-part : (n a k : ℕ) (rest : List ℕ) → k < n → take w (drop (w * k) (gathered n a f ++ rest)) ≡ f (a + k)
+  unfolding gathered
+  gathered-part zero a k rest h = absurd (omega arith)
+  gathered-part (suc n) a zero rest h =
+      let z : w * 0 ≡ 0 = omega arith in
+      let y : a + 0 ≡ a = omega arith in
+      rw (z, y, append-assoc) (take-at (f a) (gathered n (a + 1) f ++ rest) w (wide a))
+  gathered-part (suc n) a (suc k) rest h =
+      let e : w * suc k ≡ w + w * k = omega arith in
+      let y : a + suc k ≡ a + 1 + k = omega arith in
+      rw (e, y, append-assoc)
+      (ap (take w) (sym (drop-drop (w * k) w (f a ++ (gathered n (a + 1) f ++ rest))) ∙ ap (drop (w * k)) (drop-at (f a) (gathered n (a + 1) f ++ rest) w (wide a)))
+      ∙ gathered-part n (a + 1) k rest (omega arith))
+
+  pub part-gathered : (n i : ℕ) (b rest : List ℕ) → drop i b ≡ gathered n 0 f ++ rest → part b i w n ≡ upTo n f
+  unfolding part
+  part-gathered n i b rest e = fun-ext (λ k. go k (ltb k n) refl)
+    where
+      go : (k : ℕ) (c : Bool) → ltb k n ≡ c → pick c (take w (drop (w * k) (drop i b))) [] ≡ pick c (f k) []
+      go k true q =
+          let h = ltb→lt k n (of-true (ltb k n) q) in
+          let z : 0 + k ≡ k = omega arith in
+          ap (λ (l : List ℕ). take w (drop (w * k) l)) e ∙ (gathered-part n 0 k rest h ∙ ap f z)
+      go k false q = refl
+
+module _ (entry cell row : ℕ → List ℕ) (floor top : ℕ) where
+  unfoldable pub certificateBytes : List ℕ
+  certificateBytes = gathered 4096 0 entry ++ (gathered 256 0 cell ++ (gathered 64 0 row ++ (floor ∷ top ∷ [])))
+
+  module _ (entries : (k : ℕ) → length (entry k) ≡ 14) (cells : (k : ℕ) → length (cell k) ≡ 3) (rows : (k : ℕ) → length (row k) ≡ 6) where
+    at-cells : drop 0xE000 certificateBytes ≡ gathered 256 0 cell ++ (gathered 64 0 row ++ (floor ∷ top ∷ []))
+    unfolding certificateBytes
+    at-cells = drop-at (gathered 4096 0 entry) (gathered 256 0 cell ++ (gathered 64 0 row ++ (floor ∷ top ∷ []))) 0xE000 (gathered-length 14 entry entries 4096 0)
+
+    at-rows : drop 0xE300 certificateBytes ≡ gathered 64 0 row ++ (floor ∷ top ∷ [])
+    at-rows =
+        sym (drop-drop 0x300 0xE000 certificateBytes)
+        ∙ (ap (drop 0x300) at-cells ∙ drop-at (gathered 256 0 cell) (gathered 64 0 row ++ (floor ∷ top ∷ [])) 0x300 (gathered-length 3 cell cells 256 0))
+
+    at-ends : drop 0xE480 certificateBytes ≡ floor ∷ top ∷ []
+    at-ends =
+        sym (drop-drop 0x180 0xE300 certificateBytes)
+        ∙ (ap (drop 0x180) at-rows ∙ drop-at (gathered 64 0 row) (floor ∷ top ∷ []) 0x180 (gathered-length 6 row rows 64 0))
+
+    pub bytes-length : length certificateBytes ≡ 58498
+    unfolding certificateBytes
+    bytes-length =
+        let a = gathered-length 14 entry entries 4096 0 in
+        let b = gathered-length 3 cell cells 256 0 in
+        let c = gathered-length 6 row rows 64 0 in
+        let l1 = length-append (gathered 64 0 row) (floor ∷ top ∷ []) in
+        let l2 = length-append (gathered 256 0 cell) (gathered 64 0 row ++ (floor ∷ top ∷ [])) in
+        let l3 = length-append (gathered 4096 0 entry) (gathered 256 0 cell ++ (gathered 64 0 row ++ (floor ∷ top ∷ []))) in
+        omega arith
+
+    at-entries : drop 0 certificateBytes ≡ gathered 4096 0 entry ++ (gathered 256 0 cell ++ (gathered 64 0 row ++ (floor ∷ top ∷ [])))
+    unfolding certificateBytes
+    at-entries = refl
+
+    at-end : (k : ℕ) → getD certificateBytes (0xE480 + k) 0 ≡ getD (floor ∷ top ∷ []) k 0
+    at-end k = sym (getD-drop 0xE480 certificateBytes k 0) ∙ ap (λ (l : List ℕ). getD l k 0) at-ends
+
+    -- the certificate of the bytes is the tables'
+    pub certificate-is : certificateOf certificateBytes ≡ certificateFrom (upTo 4096 entry) (upTo 256 cell) (upTo 64 row) floor top
+    unfolding certificateOf
+    certificate-is =
+        rw (
+          part-gathered 14 entry entries 4096 0 certificateBytes (gathered 256 0 cell ++ (gathered 64 0 row ++ (floor ∷ top ∷ []))) at-entries,
+          part-gathered 3 cell cells 256 0xE000 certificateBytes (gathered 64 0 row ++ (floor ∷ top ∷ [])) at-cells,
+          part-gathered 6 row rows 64 0xE300 certificateBytes (floor ∷ top ∷ []) at-rows,
+          at-end 0,
+          at-end 1,
+        )

@@ -1,0 +1,4 @@
+pub mod Cases
+pub mod Gathered
+pub mod Opened
+pub mod Program

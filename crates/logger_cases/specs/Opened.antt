@@ -1,0 +1,21 @@
+-- One name that opens every definition which the cases compute through: `unfolding opened` opens them all.
+-- Assumes nothing.
+use Prim.Native.Nat.{ℕ}
+use Rattle.decode.specs.Decode.{decodeAt}
+use Rattle.action.specs.Action.{actionOf}
+use Rattle.chip.specs.Registers.{keptBits, mappedOf, loadOf, writtenOf, keptOf, storeOf}
+use Rattle.chip.specs.Interrupts.{interruptsEnabled, setInterruptsOf, pendingEdge, pendingAny, raiseOf, postOf}
+use Rattle.alu.specs.Flags.{carry, zeroFlag, signFlag, overflowFlag, flagsByte, update, conditionOn, condition}
+use Rattle.alu.specs.Operations.{offset, overflows, addition, subtraction, logical, operate, stores, increment, decrement, rotation, shiftRight, modify}
+use Rattle.semantics.specs.Operands.{placeOf, fetchPlace, fetchOf, withFlags, lowered, raised, storeTop, pushOf, pushAddress, wordAt, wordMapped}
+use Rattle.semantics.specs.Execute.{callOf, executeOf}
+use Rattle.semantics.specs.Step.{actingRequests, entryDue, finishOf, afterDecode, instructionStep, modeStep, stepAfterRequests, stepWith, stepOf}
+use Rattle.certificate.specs.Layout.{certificateFrom}
+use Rattle.certificate.specs.Summaries.{summaryOf}
+use Rattle.certificate.specs.Rules.{meets, low, high, claimed, boundAt, worst, used, cellRule, claimable, claimRule, compareRule, emptyEntry, entryRule, addressRule, startRule, bareRule, rule20, rule21, rule22, rule23, rule24, rule25, rule26, rule27, successor, callTarget, writable, reach, callDepth, narrowed, left, feasible, claimFollows, compareFollows, edge26, survives, call26, firstValue, sameFirst, boundAfter, boundAfterCall, paid, edge27, rowRule}
+use Rattle.certificate.specs.Verdicts.{summaryFrom, summaryAt, nextAt, costAt, rulesAt, firstBroken, numberAt, scan, verdictOn}
+use Rattle.logger_cases.specs.Program.{imageWith, entry, cell, row}
+
+unfoldable pub opened : ℕ
+unfolding decodeAt actionOf keptBits mappedOf loadOf writtenOf keptOf storeOf interruptsEnabled setInterruptsOf pendingEdge pendingAny raiseOf postOf carry zeroFlag signFlag overflowFlag flagsByte update conditionOn condition offset overflows addition subtraction logical operate stores increment decrement rotation shiftRight modify placeOf fetchPlace fetchOf withFlags lowered raised storeTop pushOf pushAddress wordAt wordMapped callOf executeOf actingRequests entryDue finishOf afterDecode instructionStep modeStep stepAfterRequests stepWith stepOf certificateFrom summaryOf meets low high claimed boundAt worst used cellRule claimable claimRule compareRule emptyEntry entryRule addressRule startRule bareRule rule20 rule21 rule22 rule23 rule24 rule25 rule26 rule27 successor callTarget writable reach callDepth narrowed left feasible claimFollows compareFollows edge26 survives call26 firstValue sameFirst boundAfter boundAfterCall paid edge27 rowRule summaryFrom summaryAt nextAt costAt rulesAt firstBroken numberAt scan verdictOn imageWith entry cell row
+opened = 0

@@ -1,0 +1,92 @@
+-- Image P of 01 and its certificate, at full size. The byte, bound and floor in which cases (i) to (l) differ are parameters.
+-- Assumes nothing.
+use mathlib.Core.Path.{_≡_, refl}
+use mathlib.Core.Bool.{Bool, true, false}
+use mathlib.Core.List.{List, [], _∷_, _++_}
+use Prim.Native.Nat.{ℕ, _/_, _%_}
+use lib.Dec.{eqb, ltb}
+use lib.ListN.{length, replicate}
+use Rattle.base.specs.Choice.{pick, choose}
+use Rattle.logger_cases.specs.Gathered.{certificateBytes}
+
+-- j stands at 0128H
+unfoldable pub imageWith : ℕ → List ℕ
+imageWith j =
+    (0x01 ∷ 0x40 ∷ [])
+    ++ (replicate 254 0xFF
+    ++ ((0xE6 ∷ 0xD9 ∷ 0xC0 ∷ 0xF6 ∷ 0x01 ∷ 0x20 ∷ 0x8B ∷ 0xFB ∷ [])
+    ++ (replicate 24 0xFF
+    ++ ((0xB0 ∷ 0xC2 ∷ 0x03 ∷ 0x32 ∷ 0x2E ∷ 0xA6 ∷ 0xC2 ∷ 0x10 ∷ j ∷ 0xF8 ∷ 0xAF ∷ [])
+    ++ (replicate 21 0xFF ++ (0xBF ∷ replicate 3775 0xFF))))))
+
+-- fourteen bytes of an entry: routine, depth, B, M, direction, first claim, no second claim, compare
+abbrev entryBytes : ℕ → ℕ → ℕ → ℕ → ℕ → ℕ → ℕ → ℕ → ℕ → ℕ → List ℕ
+entryBytes routine depth base slope direction cell lo hi compared k =
+    routine ∷ depth ∷ base / 256 ∷ base % 256 ∷ slope ∷ direction ∷ cell ∷ lo ∷ hi ∷ 0xFF ∷ 0 ∷ 0 ∷ compared ∷ k ∷ []
+
+-- an entry without claims
+abbrev bare : ℕ → ℕ → ℕ → List ℕ
+bare routine depth base = entryBytes routine depth base 0 0 0xFF 0 0 0xFF 0
+
+-- an entry of the loop: R2 (C2H) is claimed, M 22 up
+abbrev inLoop : ℕ → ℕ → ℕ → ℕ → ℕ → List ℕ
+inLoop base lo hi compared k = entryBytes 3 0 base 22 1 0xC2 lo hi compared k
+
+abbrev pub entries : List (ℕ × List ℕ)
+entries =
+    (0x100, bare 1 255 0) ∷ (0x103, bare 1 0 0) ∷ (0x106, bare 1 0 0)
+    ∷ (0x120, bare 3 0 364)
+    ∷ (0x122, inLoop 30 0 0x0F 0xFF 0) ∷ (0x124, inLoop 24 0 0x0F 0xFF 0)
+    ∷ (0x125, inLoop 20 1 0x10 0xFF 0) ∷ (0x128, inLoop 14 1 0x10 0xC2 0x10)
+    ∷ (0x12A, bare 3 0 8)
+    ∷ (0x140, bare 2 0 10) ∷ []
+
+unfoldable pub entry : ℕ → List ℕ
+entry a = choose a entries (replicate 14 0)
+
+-- table 1 is 00H to 0FH; C2H and C3H are class 1, limit 3
+abbrev pub cellRows : List (ℕ × List ℕ)
+cellRows = (0xC2, 1 ∷ 3 ∷ 0 ∷ []) ∷ (0xC3, 1 ∷ 3 ∷ 0 ∷ []) ∷ []
+
+unfoldable pub cell : ℕ → List ℕ
+cell x = pick (ltb x 16) (0 ∷ 0 ∷ 1 ∷ []) (choose x cellRows (0 ∷ 0 ∷ 0 ∷ []))
+
+-- main, the service, routine 3 with its bound
+abbrev pub rows : ℕ → List (ℕ × List ℕ)
+rows bound =
+    (1, 0x01 ∷ 0x00 ∷ 1 ∷ 2 ∷ 0 ∷ 0 ∷ []) ∷ (2, 0x01 ∷ 0x40 ∷ 2 ∷ 0 ∷ 0 ∷ 10 ∷ []) ∷ (3, 0x01 ∷ 0x20 ∷ 1 ∷ 0 ∷ bound / 256 ∷ bound % 256 ∷ []) ∷ []
+
+unfoldable pub row : ℕ → ℕ → List ℕ
+row bound n = choose n (rows bound) (0 ∷ 0 ∷ 0 ∷ 0 ∷ 0 ∷ 0 ∷ [])
+
+-- the whole certificate: T is C0H
+unfoldable pub certificateWith : ℕ → ℕ → List ℕ
+certificateWith bound floor = certificateBytes entry cell (row bound) floor 0xC0
+
+-- every choice of lists of one length has that length
+abbrev AllLong : ℕ → List (ℕ × List ℕ) → Type 0
+AllLong w [] = Unit {0}
+AllLong w (e ∷ r) = (length (e .1) ≡ w) × AllLong w r
+
+pick-length : (w : ℕ) (b : Bool) (x y : List ℕ) → length x ≡ w → length y ≡ w → length (pick b x y) ≡ w
+pick-length w true x y h k = h
+pick-length w false x y h k = k
+
+choose-length : (w k : ℕ) (rows : List (ℕ × List ℕ)) (d : List ℕ) → AllLong w rows → length d ≡ w → length (choose k rows d) ≡ w
+choose-length w k [] d h e = e
+choose-length w k (x ∷ rows) d h e = pick-length w (eqb k (x .0)) (x .1) (choose k rows d) (h .0) (choose-length w k rows d (h .1) e)
+
+pub entry-length : (k : ℕ) → length (entry k) ≡ 14
+unfolding entry
+entry-length k =
+    choose-length 14 k entries (replicate 14 0) (refl, (refl, (refl, (refl, (refl, (refl, (refl, (refl, (refl, (refl, tt)))))))))) refl
+
+pub cell-length : (k : ℕ) → length (cell k) ≡ 3
+unfolding cell
+cell-length k =
+    pick-length 3 (ltb k 16) (0 ∷ 0 ∷ 1 ∷ []) (choose k cellRows (0 ∷ 0 ∷ 0 ∷ [])) refl
+    (choose-length 3 k cellRows (0 ∷ 0 ∷ 0 ∷ []) (refl, (refl, tt)) refl)
+
+pub row-length : (bound k : ℕ) → length (row bound k) ≡ 6
+unfolding row
+row-length bound k = choose-length 6 k (rows bound) (0 ∷ 0 ∷ 0 ∷ 0 ∷ 0 ∷ 0 ∷ []) (refl, (refl, (refl, tt))) refl
