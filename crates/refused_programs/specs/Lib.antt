@@ -1,0 +1,3 @@
+pub mod Broken
+pub mod Opened
+pub mod Programs
