@@ -1,0 +1,149 @@
+-- What every summary has: a copied register is the one read, and what leaves a compare writes nothing.
+-- Assumes nothing.
+use mathlib.Core.Path.{_≡_, refl, sym, subst, _∙_, ap}
+use mathlib.Core.Bool.{Bool, true, false}
+use lib.Dec.{T, eqb}
+use Rattle.base.specs.declared.RegAddr.{RegAddr}
+use Rattle.base.specs.Choice.{pick}
+use Rattle.base.specs.Formula.{Holds}
+use Rattle.isa.specs.declared.Alu.{Alu}
+use Rattle.isa.specs.declared.Alu.the-variants.{Add, Adc, Sub, Sbc, Or, And, Tcm, Tm, Cp, Xor}
+use Rattle.isa.specs.declared.Unary.{Unary}
+use Rattle.isa.specs.declared.Unary.the-variants.{Dec, Rlc, Inc, Com, Rl, Clr, Rrc, Sra, Rr}
+use Rattle.chip.specs.Registers.{mappedOf}
+use Rattle.alu.specs.Operations.{stores}
+use Rattle.action.specs.declared.Operand.{Operand}
+use Rattle.action.specs.declared.Operand.the-variants.{Register, Indirect, Immediate}
+use Rattle.action.specs.declared.Action.{Action}
+use Rattle.semantics.specs.Operands.{spCell}
+use Rattle.certificate.specs.declared.NewValue.the-variants.{Number, OneMore, OneLess, AtMost, CopyOf, Unknown}
+use Rattle.certificate.specs.declared.Write.{Write}
+use Rattle.certificate.specs.declared.Access.{Access}
+use Rattle.certificate.specs.declared.FlagEffect.{FlagEffect}
+use Rattle.certificate.specs.declared.FlagEffect.the-variants.{Kept, Changed, Compared}
+use Rattle.certificate.specs.declared.StackEffect.the-variants.{Same, Push, Pop, Load}
+use Rattle.certificate.specs.declared.Summary.{Summary}
+use Rattle.certificate.specs.Summaries.{reading, moving, into, binaryValue, binaryFlags, binarySummary, modifyValue, modifyFlags, loadSummary, summaryOf}
+use Rattle.certificate.specs.Layout.{Certificate}
+use Rattle.certificate.specs.Rules.{noCell, directRead}
+use Rattle.safety.specs.Edge.{Copies, Compares}
+
+-- the register that is copied is the one read
+abbrev pub Reads : Write → Access → Type 0
+Reads Write.Nothing s = Unit {0}
+Reads (Write.Register x (Number n)) s = Unit {0}
+Reads (Write.Register x OneMore) s = Unit {0}
+Reads (Write.Register x OneLess) s = Unit {0}
+Reads (Write.Register x (AtMost n)) s = Unit {0}
+Reads (Write.Register x (CopyOf y)) s = s ≡ Access.Register y
+Reads (Write.Register x Unknown) s = Unit {0}
+Reads (Write.Pointed p o) s = Unit {0}
+Reads (Write.RegisterAndPair x p) s = Unit {0}
+
+pub record Coherent (S : Summary) : Type 0 where
+  pub reads : Reads (S .write) (S .second)
+  pub compares : Compares (S .flags) (S .write)
+
+unmapped : mappedOf noCell ≡ true → ⊥
+unfolding mappedOf
+unmapped e = subst T (sym e) tt
+
+-- a register that is read is mapped, FFH is not
+pub reads-copies : (C : Certificate) (w : Write) (s : Access) → Reads w s → Holds (directRead C s) → Copies w
+reads-copies C Write.Nothing s h m = tt
+reads-copies C (Write.Register x (Number n)) s h m = tt
+reads-copies C (Write.Register x OneMore) s h m = tt
+reads-copies C (Write.Register x OneLess) s h m = tt
+reads-copies C (Write.Register x (AtMost n)) s h m = tt
+reads-copies C (Write.Register x (CopyOf y)) s h m = λ q.
+    let z : mappedOf (y .0) ≡ true = subst (λ (u : Access). Holds (directRead C u)) h m in
+    unmapped (sym (ap mappedOf q) ∙ z)
+reads-copies C (Write.Register x Unknown) s h m = tt
+reads-copies C (Write.Pointed p o) s h m = tt
+reads-copies C (Write.RegisterAndPair x p) s h m = tt
+
+binary-reads : (op : Alu) (a : RegAddr) (s : Operand) (u : Access) → Reads (Write.Register a (binaryValue op s)) u
+binary-reads And a (Register b) u = tt
+binary-reads And a (Indirect p x) u = tt
+binary-reads And a (Immediate n) u = tt
+binary-reads Add a s u = tt
+binary-reads Adc a s u = tt
+binary-reads Sub a s u = tt
+binary-reads Sbc a s u = tt
+binary-reads Or a s u = tt
+binary-reads Tcm a s u = tt
+binary-reads Tm a s u = tt
+binary-reads Cp a s u = tt
+binary-reads Xor a s u = tt
+
+modify-reads : (op : Unary) (a : RegAddr) (u : Access) → Reads (Write.Register a (modifyValue op)) u
+modify-reads Dec a u = tt
+modify-reads Rlc a u = tt
+modify-reads Inc a u = tt
+modify-reads Com a u = tt
+modify-reads Rl a u = tt
+modify-reads Clr a u = tt
+modify-reads Rrc a u = tt
+modify-reads Sra a u = tt
+modify-reads Rr a u = tt
+
+modify-compares : (op : Unary) (w : Write) → Compares (modifyFlags op) w
+modify-compares Dec w = tt
+modify-compares Rlc w = tt
+modify-compares Inc w = tt
+modify-compares Com w = tt
+modify-compares Rl w = tt
+modify-compares Clr w = tt
+modify-compares Rrc w = tt
+modify-compares Sra w = tt
+modify-compares Rr w = tt
+
+nothing-compares : (f : FlagEffect) → Compares f Write.Nothing
+nothing-compares Kept = tt
+nothing-compares Changed = tt
+nothing-compares (Compared x k) = refl
+
+binary-coherent : (b : Bool) (op : Alu) (d s : Operand) → Coherent (into d (binarySummary b op d s))
+binary-coherent true op (Register a) s = record { reads = binary-reads op a s (reading s); compares = tt }
+binary-coherent true op (Indirect p x) s = record { reads = tt; compares = tt }
+binary-coherent false op (Register a) s = record { reads = tt; compares = nothing-compares (binaryFlags op (Register a) s) }
+binary-coherent false op (Indirect p x) s = record { reads = tt; compares = nothing-compares (binaryFlags op (Indirect p x) s) }
+binary-coherent b op (Immediate n) s = record { reads = tt; compares = tt }
+
+load-coherent : (d s : Operand) → Coherent (loadSummary d s)
+load-coherent (Register a) (Register b) = record { reads = refl; compares = tt }
+load-coherent (Register a) (Indirect p x) = record { reads = tt; compares = tt }
+load-coherent (Register a) (Immediate n) = go (eqb (a .0) spCell)
+  where
+    go : (b : Bool)
+        → Coherent (pick b (moving Write.Nothing Access.Nothing Access.Nothing Kept (Load n)) (moving (Write.Register a (Number n)) Access.Nothing Access.Nothing Kept Same))
+    go true = record { reads = tt; compares = tt }
+    go false = record { reads = tt; compares = tt }
+load-coherent (Indirect p x) s = record { reads = tt; compares = tt }
+load-coherent (Immediate n) s = record { reads = tt; compares = tt }
+
+pub coherent : (act : Action) → Coherent (summaryOf act)
+unfolding summaryOf
+coherent (Action.Binary op d s) = binary-coherent (stores op) op d s
+coherent (Action.Modify op (Register a)) = record { reads = modify-reads op a Access.Nothing; compares = modify-compares op (Write.Register a (modifyValue op)) }
+coherent (Action.Modify op (Indirect p x)) = record { reads = tt; compares = modify-compares op (Write.Pointed p x) }
+coherent (Action.Modify op (Immediate n)) = record { reads = tt; compares = tt }
+coherent (Action.Load d s) = load-coherent d s
+coherent (Action.Push s) = record { reads = tt; compares = tt }
+coherent (Action.Pop (Register a)) = record { reads = tt; compares = tt }
+coherent (Action.Pop (Indirect p x)) = record { reads = tt; compares = tt }
+coherent (Action.Pop (Immediate n)) = record { reads = tt; compares = tt }
+coherent (Action.LoadCode d c) = record { reads = tt; compares = tt }
+coherent (Action.LoadCodeStep d p up) = record { reads = tt; compares = tt }
+coherent Action.External = record { reads = tt; compares = tt }
+coherent (Action.Jump n to) = record { reads = tt; compares = tt }
+coherent (Action.JumpPair p) = record { reads = tt; compares = tt }
+coherent (Action.Call to) = record { reads = tt; compares = tt }
+coherent (Action.CallPair p) = record { reads = tt; compares = tt }
+coherent Action.Return = record { reads = tt; compares = tt }
+coherent Action.InterruptReturn = record { reads = tt; compares = tt }
+coherent (Action.Carry c) = record { reads = tt; compares = tt }
+coherent (Action.Interrupts on) = record { reads = tt; compares = tt }
+coherent Action.Idle = record { reads = tt; compares = tt }
+coherent Action.Stop = record { reads = tt; compares = tt }
+coherent Action.Nop = record { reads = tt; compares = tt }

@@ -1,0 +1,109 @@
+-- One instruction of an accepted program, from the invariant: it does not stop, it is right, and it keeps the invariant.
+-- Assumes nothing.
+use mathlib.Core.Path.{_≡_, refl, sym, subst, _∙_, ap}
+use mathlib.Core.Logic.{_≢_}
+use mathlib.Core.Bool.{Bool, true, false, _||_}
+use mathlib.Core.List.{List, [], _∷_}
+use Prim.Native.Nat.{ℕ, _+_, _%_, _≤_, _<_}
+use native.Mathlib.Omega.{arith}
+use lib.ListN.{length, getD}
+use Rattle.base.specs.declared.RomAddr.{RomAddr}
+use Rattle.base.specs.Addresses.{romAddr}
+use Rattle.base.specs.Choice.{pick}
+use Rattle.base.specs.Formula.{Holds}
+use Rattle.base.specs.Outcome.{Outcome}
+use Rattle.base.specs.Outcome.Outcome.{value, refused}
+use Rattle.isa.specs.declared.Instruction.{Instruction}
+use Rattle.alu.specs.Flags.{condition}
+use Rattle.decode.specs.Decode.{decodeAt}
+use Rattle.action.specs.declared.Action.{Action}
+use Rattle.action.specs.Action.{actionOf}
+use Rattle.semantics.specs.Operands.{flagsCell, spCell}
+use Rattle.semantics.specs.Execute.{Executed, executeOf}
+use Rattle.semantics.specs.Step.{behind}
+use Rattle.certificate.specs.declared.Flow.{Flow}
+use Rattle.certificate.specs.declared.Flow.the-variants.{Step, Call, Return, InterruptReturn, Forbidden}
+use Rattle.certificate.specs.declared.Summary.{Summary}
+use Rattle.certificate.specs.Layout.{Certificate}
+use Rattle.certificate.specs.Rules.{rule22, rule25}
+use Rattle.certificate.specs.Summaries.{summaryOf, forbidden}
+use Rattle.certificate.specs.Verdicts.{summaryFrom, sizeFrom, summaryAt, nextAt, costAt}
+use Rattle.safety.specs.Statement.{Frame, Open, Transfer, stays, calls, returns, returnsFromInterrupt, transferOf, loadsTop, charge, outward, spends, opening, closing, PointersRight, ReturnsRight, Within, transferred, byCall}
+use Rattle.safety.specs.Invariant.{at, Awake, Invariant, Refines, Does, Shaped, tableOf}
+use Rattle.safety.specs.Accepted.{Accepts, RulesHold}
+use Rattle.safety.specs.Facts.{Global, global, EntryFacts}
+use Rattle.safety.specs.Memory.{Input}
+use Rattle.safety.specs.StepRules.{StepRules}
+use Rattle.safety.specs.DecodedShape.{decoded-shaped}
+use Rattle.safety.specs.Transfers.{step-stays, is-call, is-return, is-interrupt-return, loadedAfter, loads-top}
+use Rattle.safety.specs.Refine.{refine, depth-met}
+use Rattle.safety.specs.Coherent.{coherent}
+use Rattle.safety.specs.Edge.{CertificateFacts}
+use Rattle.safety.specs.Plain.{RulesOf, rules-of, entry-of, before-of, inv-step}
+use Rattle.safety.specs.Bounds.{within-of}
+
+-- the rules at an address, for the instruction that is decoded there
+pub rules-decoded : (C : Certificate) (image : List ℕ) (a : ℕ) (d : Instruction × ℕ) → decodeAt image a ≡ value d → RulesHold C image a
+    → RulesOf C a (summaryOf (actionOf (d .0) (romAddr ((a + d .1) % 65536)))) ((a + d .1) % 65536) (costAt image a)
+unfolding summaryAt nextAt summaryFrom
+rules-decoded C image a d q h =
+    subst (λ (o : Outcome (Instruction × ℕ)). RulesOf C a (summaryFrom o a) ((a + sizeFrom o) % 65536) (costAt image a)) q (rules-of C image a h)
+
+pub table-decoded : (C : Certificate) (image : List ℕ) (a : ℕ) (d : Instruction × ℕ) → decodeAt image a ≡ value d
+    → tableOf C a (summaryAt image a) ≡ tableOf C a (summaryOf (actionOf (d .0) (romAddr ((a + d .1) % 65536))))
+unfolding summaryAt summaryFrom
+table-decoded C image a d q = ap (λ (o : Outcome (Instruction × ℕ)). tableOf C a (summaryFrom o a)) q
+
+-- at an address with an entry an instruction is decoded
+decoded-some : (C : Certificate) (a : ℕ) (o : Outcome (Instruction × ℕ)) → Holds (rule22 C a (summaryFrom o a)) → (d : Instruction × ℕ) × (o ≡ value d)
+unfolding summaryFrom rule22
+decoded-some C a (value d) h = (d, refl)
+decoded-some C a (refused n) h = absurd (h .1)
+
+pub decoded-at : (C : Certificate) (image : List ℕ) (a : ℕ) → RulesHold C image a → (d : Instruction × ℕ) × (decodeAt image a ≡ value d)
+unfolding summaryAt
+decoded-at C image a h = decoded-some C a (decodeAt image a) (h .r22)
+
+module _ (C : Certificate) (image : List ℕ) (ok : Accepts C image) (facts : CertificateFacts C) (size : length image ≡ 4096)
+         (bytes : (i : ℕ) → getD image i 0 < 256) where
+  gl : Global C image
+  gl = global C image ok
+
+  -- the instruction act at a on the registers r, with the address next behind it and cost c; o are the open routines
+  pub record Right (ld : Bool) (a : ℕ) (act : Action) (r rec : List ℕ) (next : RomAddr) (c : ℕ) (o : Open) (e : Executed) : Type 0 where
+    pub goes : e .next .stop ≡ 0
+    pub awake : Awake (e .next .mode)
+    pub pointers : PointersRight C image (tableOf C a (summaryOf act)) r rec act
+    pub returning : ReturnsRight C image (transferOf act) (o .inner) (e .next .pc .0)
+    pub within : Within C image (charge c o .inner ∷ charge c o .outer)
+    pub keeps :
+        (s′ : Rattle.semantics.specs.declared.State.State) → s′ .pc ≡ e .next .pc
+        → Invariant C (loadsTop (C .top) act || ld) (e .regs) (e .next .pc .0)
+          (transferred C image (transferOf act) next s′ (charge c o) .inner) (transferred C image (transferOf act) next s′ (charge c o) .outer)
+
+  module _ (ld : Bool) (a : ℕ) (act : Action) (r rec : List ℕ) (next : RomAddr) (c : ℕ) (o : Open) (shaped : Shaped act) (input : Input rec)
+           (rules : RulesOf C a (summaryOf act) (next .0) c) (v : Invariant C ld r a (o .inner) (o .outer)) where
+    step-rules : StepRules C a (summaryOf act)
+    unfolding rule25
+    step-rules = record { r23 = rules .r23; r24 = rules .r24; stack = rules .r25 .0; enable = rules .r25 .1 .0 }
+
+    -- an instruction that stays in its routine
+    right-step : (n : ℕ) (to : RomAddr) → summaryOf act .flow ≡ Step n to → Right ld a act r rec next c o (executeOf act image r rec next)
+    right-step n to flow =
+        let f = o .inner in
+        let fs = o .outer in
+        let d =
+        refine C image gl size bytes a (entry-of C image gl ld r a f fs v) r rec (before-of C image gl ld r a f fs v) input next
+        (depth-met C ld r a f fs (v .stack)) act shaped n to flow step-rules in
+        let w : Invariant C (loadedAfter (summaryOf act .stack) ld) (executeOf act image r rec next .regs) (pick (condition n (at r flagsCell)) (to .0) (next .0)) (spends c f) (outward c fs (f .opener))
+        = inv-step C image gl facts ld r (executeOf act image r rec next .regs) a f fs (summaryOf act) (next .0) c n to flow (coherent act) rules v (d .refines) in
+        let l = loads-top C a act ld (rules .r23) in
+        let t = step-stays act n to flow in
+        record {
+          goes = d .goes;
+          awake = d .mode;
+          pointers = d .pointers;
+          returning = rw t tt;
+          within = within-of C image gl (loadedAfter (summaryOf act .stack) ld) _ _ _ _ w;
+          keeps = λ s′ q. rw (t, l, d .counter) w;
+        }

@@ -1,0 +1,243 @@
+-- ADD to XOR with CP, TM and TCM, INC to SRA, and LD do what their summaries say.
+-- Assumes nothing.
+use mathlib.Core.Path.{_≡_, refl, _∙_}
+use mathlib.Core.Logic.{_≢_}
+use mathlib.Core.Bool.{Bool, true, false, _&&_}
+use mathlib.Core.List.{List}
+use Prim.Native.Nat.{ℕ, _<_}
+use native.Mathlib.Omega.{arith}
+use lib.Dec.{eqb, eqb→eq}
+use Rattle.base.specs.declared.RegAddr.{RegAddr}
+use Rattle.base.specs.declared.RomAddr.{RomAddr}
+use Rattle.base.specs.Choice.{pick}
+use Rattle.base.specs.Formula.{of-true}
+use Rattle.isa.specs.declared.Alu.{Alu}
+use Rattle.isa.specs.declared.Alu.the-variants.{Add, Adc, Sub, Sbc, Or, And, Tcm, Tm, Cp, Xor}
+use Rattle.isa.specs.declared.Unary.{Unary}
+use Rattle.isa.specs.declared.Unary.the-variants.{Dec, Rlc, Inc, Com, Rl, Clr, Rrc, Sra, Rr}
+use Rattle.chip.specs.Registers.{mappedOf, keptBits, loadOf, storeOf}
+use Rattle.chip.specs.Laws.{load-ram, store-other, store-full}
+use Rattle.alu.specs.Flags.{carry}
+use Rattle.alu.specs.Operations.{operate, modify, increment, decrement, stores}
+use Rattle.alu.specs.Laws.{update-unchanged, compare-leaves, operate-bound, modify-bound, and-source}
+use Rattle.action.specs.declared.Operand.{Operand}
+use Rattle.action.specs.declared.Operand.the-variants.{Register, Indirect, Immediate}
+use Rattle.action.specs.declared.Action.{Action}
+use Rattle.semantics.specs.Operands.{placeOf, fetchOf, withFlags, flagsCell, spCell, symCell}
+use Rattle.semantics.specs.Execute.{storeIf, binaryOf, modifyOf, loadInto, executeOf}
+use Rattle.certificate.specs.declared.NewValue.{NewValue}
+use Rattle.certificate.specs.declared.NewValue.the-variants.{Number, CopyOf, Unknown}
+use Rattle.certificate.specs.declared.Write.{Write}
+use Rattle.certificate.specs.declared.Access.{Access}
+use Rattle.certificate.specs.declared.FlagEffect.the-variants.{Kept}
+use Rattle.certificate.specs.declared.StackEffect.the-variants.{Same, Load}
+use Rattle.certificate.specs.declared.Summary.{Summary}
+use Rattle.certificate.specs.Layout.{Certificate}
+use Rattle.certificate.specs.Summaries.{writeTo, reading, moving, binaryValue, binaryFlags, binarySummary, modifyValue, modifyFlags, summaryOf}
+use Rattle.certificate.specs.Rules.{rule23, rule24}
+use Rattle.safety.specs.Statement.{InTable}
+use Rattle.safety.specs.Invariant.{at, Registers, FlagsAfter, Refines, Before, readTable, writeTable, tableOf, Does, Small, Shaped}
+use Rattle.safety.specs.Facts.{Global, EntryFacts}
+use Rattle.safety.specs.Memory.{Input, load-small, store-registers, flags-same, enabled-same}
+use Rattle.safety.specs.StepRules.{StepRules}
+use Rattle.safety.specs.RefineOperands.{HasPlace, Allowed, anyPlace, writablePlace, Gives, Written, may-read, may-write, fetch-ram, fetch-byte, place-mapped, fetch-mapped, in-read-table, in-write-table, nothing-written, place-written, refines-beyond, refines-written, refines-flags, does-onward}
+
+-- FLAGS, kept by the write, after the flags that an instruction names
+modify-flags : (C : Certificate) (r r′ : List ℕ) (op : Unary) (x : ℕ) (c : Bool) → Registers r′ → at r′ flagsCell ≡ at r flagsCell
+    → FlagsAfter C (modifyFlags op) r (withFlags r′ (modify op x c .flags))
+unfolding modify
+modify-flags C r r′ Dec x c g k = tt
+modify-flags C r r′ Rlc x c g k = tt
+modify-flags C r r′ Inc x c g k = tt
+modify-flags C r r′ Com x c g k = tt
+modify-flags C r r′ Rl x c g k = tt
+modify-flags C r r′ Clr x c g k = flags-same r′ (modify Clr x c .flags) g ∙ update-unchanged (at r′ flagsCell) ∙ k
+modify-flags C r r′ Rrc x c g k = tt
+modify-flags C r r′ Sra x c g k = tt
+modify-flags C r r′ Rr x c g k = tt
+
+-- CP with a number compares the byte of its cell
+binary-flags : (C : Certificate) (r rec : List ℕ) (op : Alu) (x : RegAddr) (s : Operand) (c : Bool) → Registers r
+    → FlagsAfter C (binaryFlags op (Register x) s) r (withFlags r (operate op (loadOf r rec (x .0)) (fetchOf r rec s .value) c .flags))
+unfolding fetchOf
+binary-flags C r rec Cp x (Register y) c g = tt
+binary-flags C r rec Cp x (Indirect p o) c g = tt
+binary-flags C r rec Cp x (Immediate k) c g = λ h.
+    flags-same r (operate Cp (loadOf r rec (x .0)) k c .flags) g
+    ∙ compare-leaves (at r flagsCell) (loadOf r rec (x .0)) k c ∙ rw (load-ram r rec (x .0) h)
+binary-flags C r rec Add x s c g = tt
+binary-flags C r rec Adc x s c g = tt
+binary-flags C r rec Sub x s c g = tt
+binary-flags C r rec Sbc x s c g = tt
+binary-flags C r rec Or x s c g = tt
+binary-flags C r rec And x s c g = tt
+binary-flags C r rec Tcm x s c g = tt
+binary-flags C r rec Tm x s c g = tt
+binary-flags C r rec Xor x s c g = tt
+
+-- what the summaries say of the stored values
+modify-gives : (C : Certificate) (a : ℕ) (r rec : List ℕ) (op : Unary) (d : Operand) (c : Bool)
+    → Gives C a d (modifyValue op) r (modify op (loadOf r rec (placeOf r rec d .addr .0)) c .value)
+unfolding modify increment decrement placeOf
+modify-gives C a r rec Dec (Register x) c = λ l r′ q. q ∙ rw (load-ram r rec (x .0) l)
+modify-gives C a r rec Inc (Register x) c = λ l r′ q. q ∙ rw (load-ram r rec (x .0) l)
+modify-gives C a r rec Clr (Register x) c = λ l r′ q. q
+modify-gives C a r rec Rlc (Register x) c = λ l r′ q. tt
+modify-gives C a r rec Com (Register x) c = λ l r′ q. tt
+modify-gives C a r rec Rl (Register x) c = λ l r′ q. tt
+modify-gives C a r rec Rrc (Register x) c = λ l r′ q. tt
+modify-gives C a r rec Sra (Register x) c = λ l r′ q. tt
+modify-gives C a r rec Rr (Register x) c = λ l r′ q. tt
+modify-gives C a r rec op (Indirect p o) c = tt
+modify-gives C a r rec op (Immediate n) c = tt
+
+binary-gives : (C : Certificate) (a : ℕ) (r rec : List ℕ) (op : Alu) (x : RegAddr) (s : Operand) (y : ℕ) (c : Bool)
+    → Gives C a (Register x) (binaryValue op s) r (operate op y (fetchOf r rec s .value) c .value)
+unfolding fetchOf
+binary-gives C a r rec And x (Immediate n) y c = λ l r′ q. omega (arith, and-source y n c)
+binary-gives C a r rec And x (Register z) y c = λ l r′ q. tt
+binary-gives C a r rec And x (Indirect p o) y c = λ l r′ q. tt
+binary-gives C a r rec Add x s y c = λ l r′ q. tt
+binary-gives C a r rec Adc x s y c = λ l r′ q. tt
+binary-gives C a r rec Sub x s y c = λ l r′ q. tt
+binary-gives C a r rec Sbc x s y c = λ l r′ q. tt
+binary-gives C a r rec Or x s y c = λ l r′ q. tt
+binary-gives C a r rec Tcm x s y c = λ l r′ q. tt
+binary-gives C a r rec Tm x s y c = λ l r′ q. tt
+binary-gives C a r rec Cp x s y c = λ l r′ q. tt
+binary-gives C a r rec Xor x s y c = λ l r′ q. tt
+
+module _ (C : Certificate) (image : List ℕ) (gl : Global C image) (a : ℕ) (e : EntryFacts C a) (r rec : List ℕ) (pre : Before C a r) (input : Input rec) (next : RomAddr) where
+  -- the carry before
+  abbrev carryNow : Bool
+  carryNow = carry (at r flagsCell)
+
+  written-at : (d : Operand) (n : NewValue) (v : ℕ) → HasPlace d → Allowed C a (writablePlace C a) d → v < 256 → Gives C a d n r v
+      → Written C a (writeTo d n) r (storeOf r (placeOf r rec d .addr .0) v)
+  written-at d n v s h hv k = place-written C image gl a e r rec (pre .registers) (pre .claims) d n v s h hv k
+
+  place-ok : (d : Operand) → HasPlace d → Allowed C a (writablePlace C a) d → placeOf r rec d .ok ≡ true
+  place-ok d s h = place-mapped C image gl a e r rec (pre .claims) (writablePlace C a) d s h
+
+  fetch-ok : (s : Operand) → Allowed C a anyPlace s → fetchOf r rec s .ok ≡ true
+  fetch-ok s h = fetch-mapped C image gl a e r rec (pre .claims) s h
+
+  read-table : (s : Operand) → Allowed C a anyPlace s → InTable C image (readTable C a (reading s) 0) r rec s
+  read-table s h = in-read-table C image gl a e r rec (pre .claims) anyPlace s 0 h
+
+  write-table : (d : Operand) (n : NewValue) (t : ℕ) → Allowed C a (writablePlace C a) d → InTable C image (writeTable C a (writeTo d n) t) r rec d
+  write-table d n t h = in-write-table C image gl a e r rec (pre .claims) (writablePlace C a) d n t h
+
+  fetched-byte : (s : Operand) → Small s → fetchOf r rec s .value < 256
+  fetched-byte s h = fetch-byte r rec (pre .registers) input s h
+
+  -- INC to SRA
+  modifies : (op : Unary) (d : Operand) → HasPlace d
+      → StepRules C a (moving (writeTo d (modifyValue op)) Access.Nothing Access.Nothing (modifyFlags op) Same)
+      → Does C image a (moving (writeTo d (modifyValue op)) Access.Nothing Access.Nothing (modifyFlags op) Same) (Action.Modify op d) r rec next 0 0
+  unfolding executeOf modifyOf tableOf rule23 rule24
+  modifies op d p k =
+      let target = may-write C a d (modifyValue op) (k .r23 .1 .1 .0) (k .r24 .1 .1 .0) in
+      let x = loadOf r rec (placeOf r rec d .addr .0) in
+      let m = modify op x carryNow in
+      let bound = modify-bound op x carryNow (load-small r rec (pre .registers) input _) in
+      let w = written-at d (modifyValue op) (m .value) p target bound (modify-gives C a r rec op d carryNow) in
+      does-onward C image gl a e _ (Action.Modify op d) r rec _ next (placeOf r rec d .ok) refl (place-ok d p target)
+      (refines-flags C image gl a e _ r (storeOf r (placeOf r rec d .addr .0) (m .value)) (m .flags) refl refl w
+      (modify-flags C r _ op x carryNow (w .registers) (w .others flagsCell (gl .flagsClass))))
+      (write-table d (modifyValue op) 0 target)
+
+  pub does-modify : (op : Unary) (d : Operand) → Shaped (Action.Modify op d) → StepRules C a (summaryOf (Action.Modify op d))
+      → Does C image a (summaryOf (Action.Modify op d)) (Action.Modify op d) r rec next 0 0
+  unfolding summaryOf
+  does-modify op (Register x) h k = modifies op (Register x) tt k
+  does-modify op (Indirect p o) h k = modifies op (Indirect p o) tt k
+  does-modify op (Immediate n) h k = absurd h
+
+  -- ADD to XOR store, CP, TM and TCM do not: b says which
+  binary-refines : (b : Bool) (op : Alu) (x : RegAddr) (s : Operand) → Small s → StepRules C a (binarySummary b op (Register x) s)
+      → Refines C a (binarySummary b op (Register x) s) r
+      (withFlags (storeIf r b x (operate op (loadOf r rec (x .0)) (fetchOf r rec s .value) carryNow .value))
+      (operate op (loadOf r rec (x .0)) (fetchOf r rec s .value) carryNow .flags))
+  unfolding rule23 rule24 storeIf placeOf
+  binary-refines true op x s h k =
+      let y = loadOf r rec (x .0) in
+      let m = operate op y (fetchOf r rec s .value) carryNow in
+      let bound = operate-bound op y (fetchOf r rec s .value) carryNow (load-small r rec (pre .registers) input (x .0)) (fetched-byte s h) in
+      let may = may-write C a (Register x) (binaryValue op s) (k .r23 .1 .1 .0) (k .r24 .1 .1 .0) in
+      refines-flags C image gl a e _ r (storeOf r (x .0) (m .value)) (m .flags) refl refl
+      (written-at (Register x) (binaryValue op s) (m .value) tt may bound (binary-gives C a r rec op x s y carryNow)) tt
+  binary-refines false op x s h k =
+      refines-flags C image gl a e _ r r _ refl refl (nothing-written C a r (pre .registers)) (binary-flags C r rec op x s carryNow (pre .registers))
+
+  -- its registers are mapped, its pointer in the table
+  binary-facts : (b : Bool) (op : Alu) (x : RegAddr) (s : Operand) → StepRules C a (binarySummary b op (Register x) s)
+      → (mappedOf (x .0) ≡ true) × (fetchOf r rec s .ok ≡ true) × InTable C image (tableOf C a (binarySummary b op (Register x) s)) r rec s
+  unfolding rule23 rule24 tableOf
+  binary-facts true op x s k =
+      let source = may-read C a s (k .r23 .1 .0) (k .r24 .1 .0) in
+      (k .r23 .1 .1 .0 .0, fetch-ok s source, read-table s source)
+  binary-facts false op x s k =
+      let source = may-read C a s (k .r23 .1 .0) (k .r24 .1 .0) in
+      (k .r23 .0, fetch-ok s source, read-table s source)
+
+  pub does-binary : (op : Alu) (d s : Operand) → Shaped (Action.Binary op d s) → StepRules C a (summaryOf (Action.Binary op d s))
+      → Does C image a (summaryOf (Action.Binary op d s)) (Action.Binary op d s) r rec next 0 0
+  unfolding summaryOf executeOf binaryOf placeOf
+  does-binary op (Register x) s h k =
+      let f = binary-facts (stores op) op x s k in
+      does-onward C image gl a e _ (Action.Binary op (Register x) s) r rec _ next (mappedOf (x .0) && fetchOf r rec s .ok) refl
+      (rw (f .0, f .1)) (binary-refines (stores op) op x s h k) (tt, f .2)
+  does-binary op (Indirect p o) s h k = absurd h
+  does-binary op (Immediate n) s h k = absurd h
+
+  -- LD, but of SP with a number; t: an address that the source's pointer gives lies in the table
+  loads : (d s : Operand) (n : NewValue) → HasPlace d → Small s → Gives C a d n r (fetchOf r rec s .value)
+      → (Allowed C a anyPlace s → InTable C image (tableOf C a (moving (writeTo d n) Access.Nothing (reading s) Kept Same)) r rec s)
+      → StepRules C a (moving (writeTo d n) Access.Nothing (reading s) Kept Same)
+      → Does C image a (moving (writeTo d n) Access.Nothing (reading s) Kept Same) (Action.Load d s) r rec next 0 0
+  unfolding executeOf loadInto tableOf rule23 rule24
+  loads d s n p small gives t k =
+      let target = may-write C a d n (k .r23 .1 .1 .0) (k .r24 .1 .1 .0) in
+      let source = may-read C a s (k .r23 .1 .0) (k .r24 .1 .0) in
+      let w = written-at d n (fetchOf r rec s .value) p target (fetched-byte s small) gives in
+      does-onward C image gl a e _ (Action.Load d s) r rec _ next (placeOf r rec d .ok && fetchOf r rec s .ok) refl
+      (rw (place-ok d p target, fetch-ok s source))
+      (refines-written C image gl a e _ r _ _ refl refl w (w .registers) (λ x q. refl) (w .others flagsCell (gl .flagsClass)))
+      (write-table d n _ target, t source)
+
+  -- LD SP,#n
+  loads-sp : (x : RegAddr) (n : ℕ) → n < 256 → x .0 ≡ spCell
+      → Does C image a (moving Write.Nothing Access.Nothing Access.Nothing Kept (Load n)) (Action.Load (Register x) (Immediate n)) r rec next 0 0
+  unfolding executeOf loadInto placeOf fetchOf mappedOf keptBits
+  loads-sp x n h q =
+      let g = pre .registers in
+      let other : (z : ℕ) → z ≢ spCell → at (storeOf r (x .0) n) z ≡ at r z = λ z k. store-other r (x .0) n z (λ s. k (s ∙ q)) in
+      let same : at (storeOf r (x .0) n) spCell ≡ n = rw q (store-full r spCell n refl (let z = g .size in omega arith) h) in
+      does-onward C image gl a e _ (Action.Load (Register x) (Immediate n)) r rec (storeOf r (x .0) n) next (mappedOf (x .0) && true) refl (rw q)
+      (refines-beyond C image gl a e _ r r (storeOf r (x .0) n) (nothing-written C a r g) (store-registers r (x .0) n g h (omega arith))
+      (λ z l. other z (omega arith)) same (other flagsCell (omega arith)) (enabled-same r (storeOf r (x .0) n) (other symCell (omega arith))))
+      (tt, tt)
+
+  -- b: the register is SP
+  abbrev loadedNumber : RegAddr → ℕ → Bool → Summary
+  loadedNumber x n b =
+      pick b (moving Write.Nothing Access.Nothing Access.Nothing Kept (Load n))
+      (moving (Write.Register x (Number n)) Access.Nothing Access.Nothing Kept Same)
+
+  loads-number : (x : RegAddr) (n : ℕ) → n < 256 → (b : Bool) → eqb (x .0) spCell ≡ b → StepRules C a (loadedNumber x n b)
+      → Does C image a (loadedNumber x n b) (Action.Load (Register x) (Immediate n)) r rec next 0 0
+  unfolding fetchOf
+  loads-number x n h true q k = loads-sp x n h (eqb→eq (x .0) spCell (of-true (eqb (x .0) spCell) q))
+  loads-number x n h false q k = loads (Register x) (Immediate n) (Number n) tt h (λ l r′ p. p) (λ z. tt) k
+
+  pub does-load : (d s : Operand) → Shaped (Action.Load d s) → StepRules C a (summaryOf (Action.Load d s))
+      → Does C image a (summaryOf (Action.Load d s)) (Action.Load d s) r rec next 0 0
+  unfolding summaryOf tableOf
+  does-load (Register x) (Immediate n) h k = loads-number x n h (eqb (x .0) spCell) refl k
+  does-load (Register x) (Register y) h k = loads (Register x) (Register y) (CopyOf y) tt h (λ l r′ q m. q ∙ fetch-ram r rec y m) (λ z. tt) k
+  does-load (Register x) (Indirect p o) h k = loads (Register x) (Indirect p o) Unknown tt h (λ l r′ q. tt) (read-table (Indirect p o)) k
+  does-load (Indirect p o) (Register y) h k = loads (Indirect p o) (Register y) Unknown tt h tt (λ z. tt) k
+  does-load (Indirect p o) (Indirect q y) h k = absurd h
+  does-load (Indirect p o) (Immediate n) h k = loads (Indirect p o) (Immediate n) Unknown tt h tt (λ z. tt) k
+  does-load (Immediate n) s h k = absurd h
