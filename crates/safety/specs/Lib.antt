@@ -16,6 +16,7 @@ pub mod RefineMove
 pub mod RefineOperands
 pub mod RefineStack
 pub mod Runs
+pub mod Sound
 pub mod Statement
 pub mod StepRules
 pub mod Transfers

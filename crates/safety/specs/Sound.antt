@@ -1,0 +1,235 @@
+-- The theorem: every run from reset of an accepted image is as demand 3 says.
+-- Assumes nothing.
+use mathlib.Core.Path.{_≡_, refl, sym, subst, _∙_, ap}
+use mathlib.Core.Logic.{_≢_}
+use mathlib.Core.Bool.{Bool, true, false, _||_, _&&_}
+use mathlib.Core.List.{List, [], _∷_}
+use Prim.Native.Nat.{ℕ, zero, suc, _+_, _*_, _/_, _%_, _≤_, _<_}
+use native.Mathlib.Omega.{arith}
+use lib.Dec.{T, eqb}
+use lib.ListN.{length, getD}
+use Rattle.base.specs.declared.RomAddr.{RomAddr}
+use Rattle.base.specs.Addresses.{romAddr}
+use Rattle.base.specs.Choice.{pick}
+use Rattle.base.specs.Formula.{Holds, eqb-yes}
+use Rattle.base.specs.Outcome.{Outcome}
+use Rattle.base.specs.Outcome.Outcome.{value, refused}
+use Rattle.isa.specs.declared.Instruction.{Instruction}
+use Rattle.isa.specs.Map.{cyclesOf}
+use Rattle.chip.specs.Interrupts.{interruptsEnabled, pendingAny, pendingEdge}
+use Rattle.chip.specs.Reset.{resetRegisters}
+use Rattle.chip.specs.ResetLaws.{reset-enabled}
+use Rattle.decode.specs.Decode.{decodeAt}
+use Rattle.action.specs.declared.Action.{Action}
+use Rattle.action.specs.Action.{actionOf}
+use Rattle.semantics.specs.declared.Mode.{Mode}
+use Rattle.semantics.specs.declared.Mode.the-variants.{Running, Idle, Stopped}
+use Rattle.semantics.specs.declared.State.{State}
+use Rattle.semantics.specs.declared.Stepped.{Stepped}
+use Rattle.semantics.specs.Operands.{spCell, symCell, spOf}
+use Rattle.semantics.specs.Execute.{Executed, executeOf}
+use Rattle.semantics.specs.Step.{recordLength, requested, entryDue, entryCost, vectorOf, behind, finishOf, enterOf, afterDecode, instructionStep, waitingStep, modeStep, stepAfterRequests, stepWith, stepOf}
+use Rattle.semantics.specs.Run.{recordAt, runOf}
+use Rattle.semantics.specs.Reset.{IsReset}
+use Rattle.certificate.specs.Layout.{Certificate}
+use Rattle.certificate.specs.Summaries.{summaryOf}
+use Rattle.certificate.specs.Verdicts.{summaryAt, costAt}
+use Rattle.safety.specs.Statement.{Frame, Open, Event, entered, waited, executed, decodedEvent, modeEvent, dueEvent, eventOf, Monitored, spent, moved, loadedBy, loadsTop, afterStep, monitorStep, EventRight, InstructionRight, Within, StepRight, Walk, Schedule, RunRight, fromReset, Demand3, opening, byReset, byInterrupt}
+use Rattle.safety.specs.Invariant.{at, Registers, Awake, Invariant, tableOf}
+use Rattle.safety.specs.Accepted.{Accepts}
+use Rattle.safety.specs.Facts.{Global, global}
+use Rattle.safety.specs.Memory.{Input, enabled-same}
+use Rattle.safety.specs.DecodedShape.{decoded-shaped}
+use Rattle.safety.specs.Edge.{CertificateFacts, in-range}
+use Rattle.safety.specs.Plain.{RulesOf, inv-request}
+use Rattle.safety.specs.Bounds.{within-of, stack-of}
+use Rattle.safety.specs.Runs.{record-bytes, record-length, step-state, walk-run}
+use Rattle.safety.specs.Instruction.{rules-decoded, table-decoded, decoded-at, Right}
+
+-- an entry is due only where SYM.2 is 1
+first-true : (b c : Bool) → (b && c) ≡ true → b ≡ true
+first-true true c h = refl
+first-true false c h = h
+
+due-enabled : (r : List ℕ) (mode : Mode) → entryDue r mode ≡ true → interruptsEnabled r ≡ true
+unfolding entryDue
+due-enabled r Running h = first-true (interruptsEnabled r) (pendingAny r) h
+due-enabled r Idle h = first-true (interruptsEnabled r) (pendingAny r) h
+due-enabled r Stopped h = first-true (interruptsEnabled r) (pendingEdge r) h
+
+module _ (C : Certificate) (image : List ℕ) (ok : Accepts C image) (facts : CertificateFacts C) (size : length image ≡ 4096)
+         (bytes : (i : ℕ) → getD image i 0 < 256) where
+  whole : Global C image
+  whole = global C image ok
+
+  -- the table of the instruction at each ROM address
+  unfoldable pub tables : ℕ → ℕ
+  tables a = tableOf C a (summaryAt image a)
+
+  -- the invariant of a monitored machine
+  pub record Kept (m : Monitored) : Type 0 where
+    pub invariant : Invariant C (m .loaded) (m .state .regs) (m .state .pc .0) (m .frames .inner) (m .frames .outer)
+    pub awake : Awake (m .state .mode)
+
+  -- a step to x that is the event e
+  record Good (m : Monitored) (rec : List ℕ) (x : Stepped) (e : Event) : Type 0 where
+    goes : x .stop ≡ 0
+    event : EventRight C image tables m rec e (x .state .pc .0)
+    stack : loadedBy C image e (m .loaded) ≡ true → (C .floor ≤ spOf (x .state .regs)) × (spOf (x .state .regs) ≤ C .top)
+    within : Within C image (spent C image e (m .state) (m .frames) .inner ∷ spent C image e (m .state) (m .frames) .outer)
+    kept : Kept (afterStep C image 0 e m (x .state))
+
+  -- what an instruction or an entry leaves where it does not stop
+  abbrev finished : State → Executed → ℕ → Stepped
+  finished s e cost = record {
+    state = record { regs = e .regs; pc = e .next .pc; mode = e .next .mode; cycles = (s .cycles + cost) % 4294967296 };
+    stop = 0;
+  }
+
+  finish-is : (s : State) (e : Executed) (cost : ℕ) → e .next .stop ≡ 0 → finished s e cost ≡ finishOf s e cost
+  unfolding finishOf
+  finish-is s e cost h = rw (eqb-yes h)
+
+  loaded-stack : (b : Bool) (r : List ℕ) (pc : ℕ) (f : Frame) (fs : List Frame) → Invariant C b r pc f fs → b ≡ true
+      → (C .floor ≤ at r spCell) × (at r spCell ≤ C .top)
+  loaded-stack true r pc f fs v h = stack-of C image whole r pc f fs v
+  loaded-stack false r pc f fs v h = absurd (subst T (sym h) tt)
+
+  module _ (m : Monitored) (rec : List ℕ) (k : Kept m) (input : Input rec) where
+    -- the invariant after the requests
+    requested-kept : Invariant C (m .loaded) (requested (m .state) rec) (m .state .pc .0) (m .frames .inner) (m .frames .outer)
+    requested-kept = inv-request C image whole (m .loaded) (m .state .regs) _ (m .state .pc .0) (m .frames .inner) (m .frames .outer) (k .invariant)
+
+    -- waiting
+    good-waiting : Good m rec (waitingStep (m .state) (requested (m .state) rec)) waited
+    good-waiting =
+        let v = requested-kept in
+        record {
+          goes = refl;
+          event = tt;
+          stack = loaded-stack (m .loaded) (requested (m .state) rec) (m .state .pc .0) (m .frames .inner) (m .frames .outer) v;
+          within = within-of C image whole (m .loaded) (requested (m .state) rec) (m .state .pc .0) (m .frames .inner) (m .frames .outer) v;
+          kept = record { invariant = v; awake = k .awake };
+        }
+
+    -- an instruction that is right
+    good-right : (d : Instruction × ℕ) → decodeAt image (m .state .pc .0) ≡ value d
+        → Right C image ok facts size bytes (m .loaded) (m .state .pc .0) (actionOf (d .0) (behind (m .state .pc) (d .1))) (requested (m .state) rec) rec
+          (behind (m .state .pc) (d .1)) (costAt image (m .state .pc .0)) (m .frames)
+          (executeOf (actionOf (d .0) (behind (m .state .pc) (d .1))) image (requested (m .state) rec) rec (behind (m .state .pc) (d .1)))
+        → Good m rec (afterDecode (value d) image (m .state) (requested (m .state) rec) rec) (decodedEvent (value d) (m .state .pc))
+    unfolding afterDecode costAt tables
+    good-right d q r =
+        let next = behind (m .state .pc) (d .1) in
+        let act = actionOf (d .0) next in
+        let e = executeOf act image (requested (m .state) rec) rec next in
+        subst (λ (x : Stepped). Good m rec x (executed act next)) (finish-is (m .state) e (cyclesOf (getD image (m .state .pc .0) 0)) (r .goes))
+        (record {
+          goes = refl;
+          event = record {
+            begins = k .invariant .home;
+            pointers = rw (table-decoded C image (m .state .pc .0) d q) (r .pointers);
+            returning = r .returning;
+          };
+          stack =
+              loaded-stack (loadsTop (C .top) act || m .loaded) (e .regs) (e .next .pc .0) _ _
+              (r .keeps (finished (m .state) e (cyclesOf (getD image (m .state .pc .0) 0)) .state) refl);
+          within = r .within;
+          kept = record { invariant = r .keeps (finished (m .state) e (cyclesOf (getD image (m .state .pc .0) 0)) .state) refl; awake = r .awake };
+        })
+
+  -- main alone, at 0100H, SP not loaded, interrupts off
+  reset-invariant : (r : List ℕ) → Registers r → interruptsEnabled r ≡ false
+      → Invariant C false r 0x100 (record { routine = 1; returnTo = 0; cycles = 0; opener = byReset }) []
+  reset-invariant r g off = record {
+    inRom = omega arith;
+    home = whole .mainRoutine;
+    used = let z = whole .mainRoutine in omega arith;
+    registers = g;
+    claims = λ x hx.
+        in-range C 0x100 x (at r x) (λ q. absurd (let z = whole .mainFirst in omega arith)) (λ q. absurd (let z = whole .mainSecond in omega arith)) (g .bytes x);
+    compare = λ h. absurd (let z = whole .mainCompare in omega arith);
+    enabled = λ h. absurd (subst T (sym h ∙ off) tt);
+    cost = λ n. absurd (n refl);
+    stack = record { unloaded = whole .mainDepth; main = refl; reset = refl; alone = refl };
+  }
+
+  reset-kept : (s : State) → IsReset s → Kept (fromReset C image s)
+  reset-kept s h =
+      let g : Registers (s .regs) = record { size = h .size; bytes = h .bytes; flags = h .flags } in
+      let e : at (s .regs) symCell ≡ at resetRegisters symCell = h .control symCell (omega arith) (omega arith) (omega arith) (omega arith) in
+      let off : interruptsEnabled (s .regs) ≡ false = enabled-same resetRegisters (s .regs) e ∙ reset-enabled in
+      let q : s .pc .0 ≡ 0x100 = ap (λ (p : RomAddr). p .0) (h .counter) in
+      record {
+        invariant = subst (λ (n : ℕ). Invariant C false (s .regs) n (record { routine = 1; returnTo = 0; cycles = 0; opener = byReset }) []) (sym q) (reset-invariant (s .regs) g off);
+        awake = subst Awake (sym (h .mode)) tt;
+      }
+
+  -- what is left to show of an instruction and of an entry
+  module _ (instruction : (m : Monitored) (rec : List ℕ) → Kept m → Input rec → (d : Instruction × ℕ) → decodeAt image (m .state .pc .0) ≡ value d
+        → Right C image ok facts size bytes (m .loaded) (m .state .pc .0) (actionOf (d .0) (behind (m .state .pc) (d .1))) (requested (m .state) rec) rec
+          (behind (m .state .pc) (d .1)) (costAt image (m .state .pc .0)) (m .frames)
+          (executeOf (actionOf (d .0) (behind (m .state .pc) (d .1))) image (requested (m .state) rec) rec (behind (m .state .pc) (d .1))))
+      (entry : (m : Monitored) (rec : List ℕ) → Kept m → Input rec → interruptsEnabled (requested (m .state) rec) ≡ true
+        → Good m rec (finishOf (m .state) (enterOf image (requested (m .state) rec) (m .state .pc)) entryCost) entered) where
+    module _ (m : Monitored) (rec : List ℕ) (k : Kept m) (input : Input rec) where
+      good-decoded : Good m rec (instructionStep image (m .state) (requested (m .state) rec) rec) (decodedEvent (decodeAt image (m .state .pc .0)) (m .state .pc))
+      unfolding instructionStep
+      good-decoded =
+          let v = k .invariant in
+          let u = v .used in
+          let h = ok .rules (m .state .pc .0) (v .inRom) (λ q. omega arith) in
+          let d = decoded-at C image (m .state .pc .0) h in
+          subst (λ (o : Outcome (Instruction × ℕ)). Good m rec (afterDecode o image (m .state) (requested (m .state) rec) rec) (decodedEvent o (m .state .pc)))
+          (sym (d .1)) (good-right m rec k input (d .0) (d .1) (instruction m rec k input (d .0) (d .1)))
+
+      good-mode : (mode : Mode) → Awake mode → Good m rec (modeStep mode image (m .state) (requested (m .state) rec) rec) (modeEvent mode image (m .state .pc))
+      unfolding modeStep
+      good-mode Running h = good-decoded
+      good-mode Idle h = good-waiting m rec k input
+      good-mode Stopped h = absurd h
+
+      good-due : (b : Bool) → entryDue (requested (m .state) rec) (m .state .mode) ≡ b
+          → Good m rec (stepAfterRequests b image (m .state) (requested (m .state) rec) rec) (dueEvent b (m .state .mode) image (m .state .pc))
+      unfolding stepAfterRequests
+      good-due true q = entry m rec k input (due-enabled (requested (m .state) rec) (m .state .mode) q)
+      good-due false q = good-mode (m .state .mode) (k .awake)
+
+      step-is : length rec ≡ recordLength
+          → stepAfterRequests (entryDue (requested (m .state) rec) (m .state .mode)) image (m .state) (requested (m .state) rec) rec ≡ stepOf image (m .state) rec
+      unfolding stepOf stepWith
+      step-is h = rw (size, h)
+
+      good-step : length rec ≡ recordLength → Good m rec (stepOf image (m .state) rec) (eventOf image (m .state) rec)
+      unfolding eventOf
+      good-step h =
+          subst (λ (x : Stepped). Good m rec x (dueEvent (entryDue (requested (m .state) rec) (m .state .mode)) (m .state .mode) image (m .state .pc))) (step-is h)
+          (good-due (entryDue (requested (m .state) rec) (m .state .mode)) refl)
+
+      step-right : length rec ≡ recordLength → StepRight C image tables m rec
+      step-right h = let g = good-step h in record { goes = g .goes; event = g .event; stack = g .stack; within = g .within }
+
+      step-kept : length rec ≡ recordLength → Kept (monitorStep C image m rec)
+      unfolding monitorStep
+      step-kept h =
+          let g = good-step h in
+          subst (λ (n : ℕ). Kept (afterStep C image n (eventOf image (m .state) rec) m (stepOf image (m .state) rec .state))) (sym (g .goes)) (g .kept)
+
+    walk : (k : ℕ) (schedule : List ℕ) → ((i : ℕ) → getD schedule i 0 < 256) → (i : ℕ) → k + i ≤ length schedule / recordLength → (m : Monitored)
+        → Kept m → Walk C image k tables schedule i m
+    walk zero schedule b i h m p = tt
+    walk (suc k) schedule b i h m p =
+        let rec = recordAt schedule i in
+        let input = record-bytes schedule b i in
+        let l = record-length schedule i (omega arith) in
+        (step-right m rec p input l, walk k schedule b (i + 1) (omega arith) (monitorStep C image m rec) (step-kept m rec p input l))
+
+
+    run-right : (s : State) → IsReset s → (schedule : List ℕ) → Schedule C image schedule → RunRight C image tables s schedule
+    unfolding runOf
+    run-right s h schedule sc =
+        let n = length schedule / recordLength in
+        let w : Walk C image n tables schedule 0 (fromReset C image s) = walk n schedule (sc .bytes) 0 (omega arith) (fromReset C image s) (reset-kept s h) in
+        let d = walk-run C image n tables schedule 0 (fromReset C image s) w in
+        let z : 0 + n ≡ n = omega arith in
+        record { steps = rw (size, sc .whole) (d .0 ∙ z); stop = rw (size, sc .whole) (d .1); walk = w }
