@@ -20,7 +20,7 @@ isAccepted : Verdict → ℕ
 isAccepted Accepted = 0
 isAccepted (Refused n a) = 1
 
-never-refused : (n : ℕ) (a : RomAddr) → Refused n a ≡ Accepted → ⊥
+pub never-refused : (n : ℕ) (a : RomAddr) → Refused n a ≡ Accepted → ⊥
 unfolding isAccepted
 never-refused n a e = let z : _≡_ {A = ℕ} 1 0 = mathlib.Core.Path.ap isAccepted e in omega arith
 

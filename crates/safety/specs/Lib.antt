@@ -19,4 +19,5 @@ pub mod Runs
 pub mod Sound
 pub mod Statement
 pub mod StepRules
+pub mod Theorem
 pub mod Transfers

@@ -18,7 +18,7 @@ use Rattle.certificate.specs.Layout.{Certificate}
 use Rattle.safety.specs.Statement.{Event, Monitored, afterStep, monitorStep, eventOf, StepRight, Walk}
 
 -- a part of bytes holds bytes
-take-bytes : (n : ℕ) (l : List ℕ) → ((i : ℕ) → getD l i 0 < 256) → (i : ℕ) → getD (take n l) i 0 < 256
+pub take-bytes : (n : ℕ) (l : List ℕ) → ((i : ℕ) → getD l i 0 < 256) → (i : ℕ) → getD (take n l) i 0 < 256
 take-bytes zero l h i = omega arith
 take-bytes (suc n) [] h i = omega arith
 take-bytes (suc n) (x ∷ l) h zero = h zero

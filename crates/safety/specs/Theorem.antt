@@ -1,0 +1,60 @@
+-- Demand 3 over the bytes of an image and a certificate.
+-- Assumes nothing.
+use mathlib.Core.Path.{_≡_, refl, sym, subst, _∙_, ap}
+use mathlib.Core.Bool.{Bool, true, false, _&&_}
+use mathlib.Core.List.{List, [], _∷_}
+use Prim.Native.Nat.{ℕ, zero, suc, _+_, _*_, _≤_, _<_}
+use native.Mathlib.Omega.{arith}
+use lib.Dec.{T, eqb, ltb, eqb→eq}
+use lib.ListN.{length, getD, take, drop}
+use lib.Seq.{getD-drop}
+use Rattle.base.specs.Addresses.{romAddr}
+use Rattle.base.specs.Choice.{pick}
+use Rattle.base.specs.Formula.{of-true, sound, test, _&_}
+use Rattle.certificate.specs.declared.Verdict.{Verdict}
+use Rattle.certificate.specs.declared.Verdict.the-variants.{Accepted, Refused}
+use Rattle.certificate.specs.Layout.{certificateLength, certificateFrom, part, certificateOf}
+use Rattle.certificate.specs.Rules.{romEnd}
+use Rattle.certificate.specs.Verdicts.{verdictOn, verdictOf}
+use Rattle.safety.specs.Statement.{Demand3}
+use Rattle.safety.specs.Accepted.{accepts, never-refused}
+use Rattle.safety.specs.Runs.{take-bytes}
+
+-- a part of bytes holds bytes
+part-bytes : (b : List ℕ) → ((i : ℕ) → getD b i 0 < 256) → (i w m k j : ℕ) → getD (part b i w m k) j 0 < 256
+unfolding part
+part-bytes b h i w m k j = go (ltb k m)
+  where
+    dropped : (n : ℕ) (l : List ℕ) → ((i : ℕ) → getD l i 0 < 256) → (i : ℕ) → getD (drop n l) i 0 < 256
+    dropped n l h i = rw (getD-drop n l i 0) (h (n + i))
+
+    go : (c : Bool) → getD (pick c (take w (drop (w * k) (drop i b))) []) j 0 < 256
+    go true = take-bytes w (drop (w * k) (drop i b)) (dropped (w * k) (drop i b) (dropped i b h)) j
+    go false = omega arith
+
+compare-byte : (b : List ℕ) → ((i : ℕ) → getD b i 0 < 256) → (a : ℕ) → certificateOf b .compareNumber a < 256
+unfolding certificateOf certificateFrom
+compare-byte b h a = part-bytes b h 0 14 4096 a 13
+
+-- an accepted pair has the right lengths, and no rule is broken
+lengths : (b : Bool) (v : Verdict) → pick b v (Refused 7 (romAddr 0)) ≡ Accepted → (b ≡ true) × (v ≡ Accepted)
+lengths true v h = (refl, h)
+lengths false v h = absurd (never-refused 7 (romAddr 0) h)
+
+pub record AcceptedPair (image cert : List ℕ) : Type 0 where
+  pub imageLength : length image ≡ romEnd
+  pub certLength : length cert ≡ certificateLength
+  pub verdict : verdictOn (certificateOf cert) image ≡ Accepted
+
+pub accepted-pair : (image cert : List ℕ) → verdictOf image cert ≡ Accepted → AcceptedPair image cert
+unfolding verdictOf
+accepted-pair image cert h =
+    let l = lengths (eqb (length image) romEnd && eqb (length cert) certificateLength) (verdictOn (certificateOf cert) image) h in
+    let p =
+    sound (test (eqb (length image) romEnd) & test (eqb (length cert) certificateLength))
+    (of-true (eqb (length image) romEnd && eqb (length cert) certificateLength) (l .0)) in
+    record {
+      imageLength = eqb→eq (length image) romEnd (of-true (eqb (length image) romEnd) (p .0));
+      certLength = eqb→eq (length cert) certificateLength (of-true (eqb (length cert) certificateLength) (p .1));
+      verdict = l .1;
+    }
