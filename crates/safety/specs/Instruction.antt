@@ -18,17 +18,18 @@ use Rattle.alu.specs.Flags.{condition}
 use Rattle.decode.specs.Decode.{decodeAt}
 use Rattle.action.specs.declared.Action.{Action}
 use Rattle.action.specs.Action.{actionOf}
-use Rattle.semantics.specs.Operands.{flagsCell, spCell}
+use Rattle.semantics.specs.declared.State.{State}
+use Rattle.semantics.specs.Operands.{flagsCell}
 use Rattle.semantics.specs.Execute.{Executed, executeOf}
 use Rattle.semantics.specs.Step.{behind}
 use Rattle.certificate.specs.declared.Flow.{Flow}
 use Rattle.certificate.specs.declared.Flow.the-variants.{Step, Call, Return, InterruptReturn, Forbidden}
 use Rattle.certificate.specs.declared.Summary.{Summary}
 use Rattle.certificate.specs.Layout.{Certificate}
-use Rattle.certificate.specs.Rules.{rule22, rule25}
+use Rattle.certificate.specs.Rules.{flowAllowed, rule22, rule25}
 use Rattle.certificate.specs.Summaries.{summaryOf, forbidden}
 use Rattle.certificate.specs.Verdicts.{summaryFrom, sizeFrom, summaryAt, nextAt, costAt}
-use Rattle.safety.specs.Statement.{Frame, Open, Transfer, stays, calls, returns, returnsFromInterrupt, transferOf, loadsTop, charge, outward, spends, opening, closing, PointersRight, ReturnsRight, Within, transferred, byCall}
+use Rattle.safety.specs.Statement.{Frame, Open, Transfer, stays, calls, returns, returnsFromInterrupt, transferOf, loadsTop, charge, outward, spends, opening, closing, PointersRight, ReturnsRight, Within, transferred, Opener, byCall, byInterrupt}
 use Rattle.safety.specs.Invariant.{at, Awake, Invariant, Refines, Does, Shaped, tableOf}
 use Rattle.safety.specs.Accepted.{Accepts, RulesHold}
 use Rattle.safety.specs.Facts.{Global, global, EntryFacts}
@@ -41,6 +42,8 @@ use Rattle.safety.specs.Coherent.{coherent}
 use Rattle.safety.specs.Edge.{CertificateFacts}
 use Rattle.safety.specs.Plain.{RulesOf, rules-of, entry-of, before-of, inv-step}
 use Rattle.safety.specs.Bounds.{within-of}
+use Rattle.safety.specs.Calls.{ReturnRight, calledFrame, inv-call, inv-return}
+use Rattle.safety.specs.Interrupts.{inv-interrupt-return}
 
 -- the rules at an address, for the instruction that is decoded there
 pub rules-decoded : (C : Certificate) (image : List ℕ) (a : ℕ) (d : Instruction × ℕ) → decodeAt image a ≡ value d → RulesHold C image a
@@ -65,7 +68,7 @@ unfolding summaryAt
 decoded-at C image a h = decoded-some C a (decodeAt image a) (h .r22)
 
 module _ (C : Certificate) (image : List ℕ) (ok : Accepts C image) (facts : CertificateFacts C) (size : length image ≡ 4096)
-         (bytes : (i : ℕ) → getD image i 0 < 256) where
+    (bytes : (i : ℕ) → getD image i 0 < 256) where
   gl : Global C image
   gl = global C image ok
 
@@ -77,12 +80,12 @@ module _ (C : Certificate) (image : List ℕ) (ok : Accepts C image) (facts : Ce
     pub returning : ReturnsRight C image (transferOf act) (o .inner) (e .next .pc .0)
     pub within : Within C image (charge c o .inner ∷ charge c o .outer)
     pub keeps :
-        (s′ : Rattle.semantics.specs.declared.State.State) → s′ .pc ≡ e .next .pc
+        (s′ : State) → s′ .pc ≡ e .next .pc
         → Invariant C (loadsTop (C .top) act || ld) (e .regs) (e .next .pc .0)
-          (transferred C image (transferOf act) next s′ (charge c o) .inner) (transferred C image (transferOf act) next s′ (charge c o) .outer)
+        (transferred C image (transferOf act) next s′ (charge c o) .inner) (transferred C image (transferOf act) next s′ (charge c o) .outer)
 
   module _ (ld : Bool) (a : ℕ) (act : Action) (r rec : List ℕ) (next : RomAddr) (c : ℕ) (o : Open) (shaped : Shaped act) (input : Input rec)
-           (rules : RulesOf C a (summaryOf act) (next .0) c) (v : Invariant C ld r a (o .inner) (o .outer)) where
+      (rules : RulesOf C a (summaryOf act) (next .0) c) (v : Invariant C ld r a (o .inner) (o .outer)) where
     step-rules : StepRules C a (summaryOf act)
     unfolding rule25
     step-rules = record { r23 = rules .r23; r24 = rules .r24; stack = rules .r25 .0; enable = rules .r25 .1 .0 }
@@ -107,3 +110,73 @@ module _ (C : Certificate) (image : List ℕ) (ok : Accepts C image) (facts : Ce
           within = within-of C image gl (loadedAfter (summaryOf act .stack) ld) _ _ _ _ w;
           keeps = λ s′ q. rw (t, l, d .counter) w;
         }
+
+    -- CALL
+    right-call : (to : RomAddr) → summaryOf act .flow ≡ Call to → Right ld a act r rec next c o (executeOf act image r rec next)
+    right-call to flow =
+        let f = o .inner in
+        let fs = o .outer in
+        let w = inv-call C image gl facts ld r rec a f fs (summaryOf act) next to c flow rules v in
+        let e = executeOf (Action.Call to) image r rec next in
+        subst (λ (x : Action). Right ld a x r rec next c o (executeOf x image r rec next)) (sym (is-call act to flow))
+        (record {
+          goes = w .goes;
+          awake = w .mode;
+          pointers = tt;
+          returning = tt;
+          within = within-of C image gl ld (e .regs) (to .0) _ _ (w .invariant) .1;
+          keeps = λ s′ q.
+              let z : s′ .pc .0 ≡ to .0 = ap (λ (p : RomAddr). p .0) q ∙ w .counter in
+              subst (λ (n : ℕ). Invariant C ld (e .regs) n (calledFrame C image gl facts (s′ .pc .0) (next .0)) (spends c f ∷ outward c fs (f .opener))) (sym (w .counter))
+              (subst (λ (n : ℕ). Invariant C ld (e .regs) (to .0) (calledFrame C image gl facts n (next .0)) (spends c f ∷ outward c fs (f .opener))) (sym z) (w .invariant));
+        })
+
+    -- a return closes the innermost routine
+    right-closing : (x : Action) (p : Opener) → ReturnRight C image gl facts x p ld r rec next c (o .inner) (o .outer)
+        → PointersRight C image (tableOf C a (summaryOf x)) r rec x
+        → ReturnsRight C image (transferOf x) (o .inner) (executeOf x image r rec next .next .pc .0)
+        → (loadsTop (C .top) x || ld) ≡ ld
+        → ((s′ : State) → transferred C image (transferOf x) next s′ (charge c o) ≡ closing (charge c o))
+        → Right ld a x r rec next c o (executeOf x image r rec next)
+    right-closing x p w ptr ret same close =
+        let f = o .inner in
+        let e = executeOf x image r rec next in
+        record {
+          goes = w .goes;
+          awake = w .mode;
+          pointers = ptr;
+          returning = ret;
+          within = (λ n. w .own, subst (Within C image) (sym (w .shape)) (within-of C image gl ld (e .regs) (f .returnTo) (w .waiting) (w .rest) (w .invariant)));
+          keeps = λ s′ q.
+              rw (same, close s′, w .counter)
+              (subst
+              (λ (l : List Frame).
+              Invariant C ld (e .regs) (f .returnTo) (closing (record { inner = spends c f; outer = l }) .inner) (closing (record { inner = spends c f; outer = l }) .outer))
+              (sym (w .shape)) (w .invariant));
+        }
+
+    -- RET
+    right-return : summaryOf act .flow ≡ Return → Right ld a act r rec next c o (executeOf act image r rec next)
+    right-return flow =
+        let w = inv-return C image gl facts ld r rec a (o .inner) (o .outer) (summaryOf act) next c flow rules v in
+        subst (λ (x : Action). Right ld a x r rec next c o (executeOf x image r rec next)) (sym (is-return act flow))
+        (right-closing Action.Return byCall w tt (w .counter, w .opener) refl (λ s′. refl))
+
+    -- IRET
+    right-interrupt-return : summaryOf act .flow ≡ InterruptReturn → Right ld a act r rec next c o (executeOf act image r rec next)
+    right-interrupt-return flow =
+        let w = inv-interrupt-return C image gl facts ld r rec a (o .inner) (o .outer) (summaryOf act) next c flow rules v in
+        subst (λ (x : Action). Right ld a x r rec next c o (executeOf x image r rec next)) (sym (is-interrupt-return act flow))
+        (right-closing Action.InterruptReturn byInterrupt w tt (w .counter, w .opener) refl (λ s′. refl))
+
+    -- by the flow of its summary; rule 22 allows no other
+    right-flow : (f : Flow) → summaryOf act .flow ≡ f → Right ld a act r rec next c o (executeOf act image r rec next)
+    unfolding rule22
+    right-flow (Step n to) q = right-step n to q
+    right-flow (Call to) q = right-call to q
+    right-flow Return q = right-return q
+    right-flow InterruptReturn q = right-interrupt-return q
+    right-flow Forbidden q = absurd (subst (λ (f : Flow). Holds (flowAllowed C a f)) q (rules .r22 .1))
+
+    pub right : Right ld a act r rec next c o (executeOf act image r rec next)
+    right = right-flow (summaryOf act .flow) refl

@@ -1,11 +1,13 @@
 pub mod Accepted
 pub mod Bounds
+pub mod Calls
 pub mod Chain
 pub mod Coherent
 pub mod DecodedShape
 pub mod Edge
 pub mod Facts
 pub mod Instruction
+pub mod Interrupts
 pub mod Invariant
 pub mod Memory
 pub mod Plain

@@ -113,6 +113,18 @@ module _ (C : Certificate) (image : List ℕ) (global : Global C image) where
       let l = v .stack .unloaded in
       record { registers = v .registers; claims = v .claims; lowest = λ d. absurd (omega arith); highest = λ d. absurd (omega arith) }
 
+  -- SP, once loaded, lies between floor and top
+  pub stack-within : (ld : Bool) (r : List ℕ) (a : ℕ) (f : Frame) (fs : List Frame) → Invariant C ld r a f fs → ld ≡ true
+      → (C .floor ≤ at r spCell) × (at r spCell ≤ C .top)
+  stack-within true r a f fs v q =
+      let b = before-of true r a f fs v in
+      let l = v .stack in
+      let h = b .lowest (l .loaded) in
+      let k = b .highest (l .loaded) in
+      let d = l .room in
+      (omega arith, omega arith)
+  stack-within false r a f fs v q = absurd (subst T (sym q) tt)
+
   -- the chain of the innermost routine, after a step that keeps what it must
   pub chain-step : (c : ℕ) (r r′ : List ℕ) (a : ℕ) (f : Frame) (fs : List Frame) → EntryFacts C a → C .routine a ≡ f .routine
       → Keeps C (C .side (C .routine a)) (C .routine a) (at r spCell + C .depth a) r r′ → Chain C r (at r spCell + C .depth a) f fs

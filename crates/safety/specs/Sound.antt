@@ -44,7 +44,8 @@ use Rattle.safety.specs.Edge.{CertificateFacts, in-range}
 use Rattle.safety.specs.Plain.{RulesOf, inv-request}
 use Rattle.safety.specs.Bounds.{within-of, stack-of}
 use Rattle.safety.specs.Runs.{record-bytes, record-length, step-state, walk-run}
-use Rattle.safety.specs.Instruction.{rules-decoded, table-decoded, decoded-at, Right}
+use Rattle.safety.specs.Interrupts.{serviceFrame, inv-enter}
+use Rattle.safety.specs.Instruction.{rules-decoded, table-decoded, decoded-at, Right, right}
 
 -- an entry is due only where SYM.2 is 1
 first-true : (b c : Bool) → (b && c) ≡ true → b ≡ true
@@ -58,7 +59,7 @@ due-enabled r Idle h = first-true (interruptsEnabled r) (pendingAny r) h
 due-enabled r Stopped h = first-true (interruptsEnabled r) (pendingEdge r) h
 
 module _ (C : Certificate) (image : List ℕ) (ok : Accepts C image) (facts : CertificateFacts C) (size : length image ≡ 4096)
-         (bytes : (i : ℕ) → getD image i 0 < 256) where
+    (bytes : (i : ℕ) → getD image i 0 < 256) where
   whole : Global C image
   whole = global C image ok
 
@@ -115,8 +116,8 @@ module _ (C : Certificate) (image : List ℕ) (ok : Accepts C image) (facts : Ce
     -- an instruction that is right
     good-right : (d : Instruction × ℕ) → decodeAt image (m .state .pc .0) ≡ value d
         → Right C image ok facts size bytes (m .loaded) (m .state .pc .0) (actionOf (d .0) (behind (m .state .pc) (d .1))) (requested (m .state) rec) rec
-          (behind (m .state .pc) (d .1)) (costAt image (m .state .pc .0)) (m .frames)
-          (executeOf (actionOf (d .0) (behind (m .state .pc) (d .1))) image (requested (m .state) rec) rec (behind (m .state .pc) (d .1)))
+        (behind (m .state .pc) (d .1)) (costAt image (m .state .pc .0)) (m .frames)
+        (executeOf (actionOf (d .0) (behind (m .state .pc) (d .1))) image (requested (m .state) rec) rec (behind (m .state .pc) (d .1)))
         → Good m rec (afterDecode (value d) image (m .state) (requested (m .state) rec) rec) (decodedEvent (value d) (m .state .pc))
     unfolding afterDecode costAt tables
     good-right d q r =
@@ -165,71 +166,97 @@ module _ (C : Certificate) (image : List ℕ) (ok : Accepts C image) (facts : Ce
         awake = subst Awake (sym (h .mode)) tt;
       }
 
-  -- what is left to show of an instruction and of an entry
-  module _ (instruction : (m : Monitored) (rec : List ℕ) → Kept m → Input rec → (d : Instruction × ℕ) → decodeAt image (m .state .pc .0) ≡ value d
-        → Right C image ok facts size bytes (m .loaded) (m .state .pc .0) (actionOf (d .0) (behind (m .state .pc) (d .1))) (requested (m .state) rec) rec
-          (behind (m .state .pc) (d .1)) (costAt image (m .state .pc .0)) (m .frames)
-          (executeOf (actionOf (d .0) (behind (m .state .pc) (d .1))) image (requested (m .state) rec) rec (behind (m .state .pc) (d .1))))
-      (entry : (m : Monitored) (rec : List ℕ) → Kept m → Input rec → interruptsEnabled (requested (m .state) rec) ≡ true
-        → Good m rec (finishOf (m .state) (enterOf image (requested (m .state) rec) (m .state .pc)) entryCost) entered) where
-    module _ (m : Monitored) (rec : List ℕ) (k : Kept m) (input : Input rec) where
-      good-decoded : Good m rec (instructionStep image (m .state) (requested (m .state) rec) rec) (decodedEvent (decodeAt image (m .state .pc .0)) (m .state .pc))
-      unfolding instructionStep
-      good-decoded =
-          let v = k .invariant in
-          let u = v .used in
-          let h = ok .rules (m .state .pc .0) (v .inRom) (λ q. omega arith) in
-          let d = decoded-at C image (m .state .pc .0) h in
-          subst (λ (o : Outcome (Instruction × ℕ)). Good m rec (afterDecode o image (m .state) (requested (m .state) rec) rec) (decodedEvent o (m .state .pc)))
-          (sym (d .1)) (good-right m rec k input (d .0) (d .1) (instruction m rec k input (d .0) (d .1)))
+  -- the instruction at the program counter
+  instruction-right : (m : Monitored) (rec : List ℕ) → Kept m → Input rec → (d : Instruction × ℕ) → decodeAt image (m .state .pc .0) ≡ value d
+      → Right C image ok facts size bytes (m .loaded) (m .state .pc .0) (actionOf (d .0) (behind (m .state .pc) (d .1))) (requested (m .state) rec) rec
+      (behind (m .state .pc) (d .1)) (costAt image (m .state .pc .0)) (m .frames)
+      (executeOf (actionOf (d .0) (behind (m .state .pc) (d .1))) image (requested (m .state) rec) rec (behind (m .state .pc) (d .1)))
+  instruction-right m rec k input d q =
+      let a = m .state .pc .0 in
+      let v = k .invariant in
+      let u = v .used in
+      let next = behind (m .state .pc) (d .1) in
+      right C image ok facts size bytes (m .loaded) a (actionOf (d .0) next) (requested (m .state) rec) rec next (costAt image a) (m .frames)
+      (decoded-shaped image bytes a d q next) input (rules-decoded C image a d q (ok .rules a (v .inRom) (λ z. omega arith))) (requested-kept m rec k input)
 
-      good-mode : (mode : Mode) → Awake mode → Good m rec (modeStep mode image (m .state) (requested (m .state) rec) rec) (modeEvent mode image (m .state .pc))
-      unfolding modeStep
-      good-mode Running h = good-decoded
-      good-mode Idle h = good-waiting m rec k input
-      good-mode Stopped h = absurd h
+  -- an interrupt entry
+  good-entered : (m : Monitored) (rec : List ℕ) → Kept m → Input rec → interruptsEnabled (requested (m .state) rec) ≡ true
+      → Good m rec (finishOf (m .state) (enterOf image (requested (m .state) rec) (m .state .pc)) entryCost) entered
+  good-entered m rec k input on =
+      let e = enterOf image (requested (m .state) rec) (m .state .pc) in
+      let w = inv-enter C image whole facts (m .loaded) (requested (m .state) rec) (m .state .pc) (m .frames .inner) (m .frames .outer) (requested-kept m rec k input) on in
+      let i : Invariant C (m .loaded) (e .regs) (e .next .pc .0) (serviceFrame C image whole facts (m .state .pc .0)) (m .frames .inner ∷ m .frames .outer)
+      = subst (λ (n : ℕ). Invariant C (m .loaded) (e .regs) n (serviceFrame C image whole facts (m .state .pc .0)) (m .frames .inner ∷ m .frames .outer)) (sym (w .counter)) (w .invariant) in
+      subst (λ (x : Stepped). Good m rec x entered) (finish-is (m .state) e entryCost (w .goes))
+      (record {
+        goes = refl;
+        event = tt;
+        stack = loaded-stack (m .loaded) (e .regs) (e .next .pc .0) _ _ i;
+        within = within-of C image whole (m .loaded) (e .regs) (e .next .pc .0) _ _ i;
+        kept = record { invariant = i; awake = w .mode };
+      })
 
-      good-due : (b : Bool) → entryDue (requested (m .state) rec) (m .state .mode) ≡ b
-          → Good m rec (stepAfterRequests b image (m .state) (requested (m .state) rec) rec) (dueEvent b (m .state .mode) image (m .state .pc))
-      unfolding stepAfterRequests
-      good-due true q = entry m rec k input (due-enabled (requested (m .state) rec) (m .state .mode) q)
-      good-due false q = good-mode (m .state .mode) (k .awake)
+  module _ (m : Monitored) (rec : List ℕ) (k : Kept m) (input : Input rec) where
+    good-decoded : Good m rec (instructionStep image (m .state) (requested (m .state) rec) rec) (decodedEvent (decodeAt image (m .state .pc .0)) (m .state .pc))
+    unfolding instructionStep
+    good-decoded =
+        let v = k .invariant in
+        let u = v .used in
+        let h = ok .rules (m .state .pc .0) (v .inRom) (λ q. omega arith) in
+        let d = decoded-at C image (m .state .pc .0) h in
+        subst (λ (o : Outcome (Instruction × ℕ)). Good m rec (afterDecode o image (m .state) (requested (m .state) rec) rec) (decodedEvent o (m .state .pc)))
+        (sym (d .1)) (good-right m rec k input (d .0) (d .1) (instruction-right m rec k input (d .0) (d .1)))
 
-      step-is : length rec ≡ recordLength
-          → stepAfterRequests (entryDue (requested (m .state) rec) (m .state .mode)) image (m .state) (requested (m .state) rec) rec ≡ stepOf image (m .state) rec
-      unfolding stepOf stepWith
-      step-is h = rw (size, h)
+    good-mode : (mode : Mode) → Awake mode → Good m rec (modeStep mode image (m .state) (requested (m .state) rec) rec) (modeEvent mode image (m .state .pc))
+    unfolding modeStep
+    good-mode Running h = good-decoded
+    good-mode Idle h = good-waiting m rec k input
+    good-mode Stopped h = absurd h
 
-      good-step : length rec ≡ recordLength → Good m rec (stepOf image (m .state) rec) (eventOf image (m .state) rec)
-      unfolding eventOf
-      good-step h =
-          subst (λ (x : Stepped). Good m rec x (dueEvent (entryDue (requested (m .state) rec) (m .state .mode)) (m .state .mode) image (m .state .pc))) (step-is h)
-          (good-due (entryDue (requested (m .state) rec) (m .state .mode)) refl)
+    good-due : (b : Bool) → entryDue (requested (m .state) rec) (m .state .mode) ≡ b
+        → Good m rec (stepAfterRequests b image (m .state) (requested (m .state) rec) rec) (dueEvent b (m .state .mode) image (m .state .pc))
+    unfolding stepAfterRequests
+    good-due true q = good-entered m rec k input (due-enabled (requested (m .state) rec) (m .state .mode) q)
+    good-due false q = good-mode (m .state .mode) (k .awake)
 
-      step-right : length rec ≡ recordLength → StepRight C image tables m rec
-      step-right h = let g = good-step h in record { goes = g .goes; event = g .event; stack = g .stack; within = g .within }
+    step-is : length rec ≡ recordLength
+        → stepAfterRequests (entryDue (requested (m .state) rec) (m .state .mode)) image (m .state) (requested (m .state) rec) rec ≡ stepOf image (m .state) rec
+    unfolding stepOf stepWith
+    step-is h = rw (size, h)
 
-      step-kept : length rec ≡ recordLength → Kept (monitorStep C image m rec)
-      unfolding monitorStep
-      step-kept h =
-          let g = good-step h in
-          subst (λ (n : ℕ). Kept (afterStep C image n (eventOf image (m .state) rec) m (stepOf image (m .state) rec .state))) (sym (g .goes)) (g .kept)
+    good-step : length rec ≡ recordLength → Good m rec (stepOf image (m .state) rec) (eventOf image (m .state) rec)
+    unfolding eventOf
+    good-step h =
+        subst (λ (x : Stepped). Good m rec x (dueEvent (entryDue (requested (m .state) rec) (m .state .mode)) (m .state .mode) image (m .state .pc))) (step-is h)
+        (good-due (entryDue (requested (m .state) rec) (m .state .mode)) refl)
 
-    walk : (k : ℕ) (schedule : List ℕ) → ((i : ℕ) → getD schedule i 0 < 256) → (i : ℕ) → k + i ≤ length schedule / recordLength → (m : Monitored)
-        → Kept m → Walk C image k tables schedule i m
-    walk zero schedule b i h m p = tt
-    walk (suc k) schedule b i h m p =
-        let rec = recordAt schedule i in
-        let input = record-bytes schedule b i in
-        let l = record-length schedule i (omega arith) in
-        (step-right m rec p input l, walk k schedule b (i + 1) (omega arith) (monitorStep C image m rec) (step-kept m rec p input l))
+    step-right : length rec ≡ recordLength → StepRight C image tables m rec
+    step-right h = let g = good-step h in record { goes = g .goes; event = g .event; stack = g .stack; within = g .within }
 
+    step-kept : length rec ≡ recordLength → Kept (monitorStep C image m rec)
+    unfolding monitorStep
+    step-kept h =
+        let g = good-step h in
+        subst (λ (n : ℕ). Kept (afterStep C image n (eventOf image (m .state) rec) m (stepOf image (m .state) rec .state))) (sym (g .goes)) (g .kept)
 
-    run-right : (s : State) → IsReset s → (schedule : List ℕ) → Schedule C image schedule → RunRight C image tables s schedule
-    unfolding runOf
-    run-right s h schedule sc =
-        let n = length schedule / recordLength in
-        let w : Walk C image n tables schedule 0 (fromReset C image s) = walk n schedule (sc .bytes) 0 (omega arith) (fromReset C image s) (reset-kept s h) in
-        let d = walk-run C image n tables schedule 0 (fromReset C image s) w in
-        let z : 0 + n ≡ n = omega arith in
-        record { steps = rw (size, sc .whole) (d .0 ∙ z); stop = rw (size, sc .whole) (d .1); walk = w }
+  walk : (k : ℕ) (schedule : List ℕ) → ((i : ℕ) → getD schedule i 0 < 256) → (i : ℕ) → k + i ≤ length schedule / recordLength → (m : Monitored)
+      → Kept m → Walk C image k tables schedule i m
+  walk zero schedule b i h m p = tt
+  walk (suc k) schedule b i h m p =
+      let rec = recordAt schedule i in
+      let input = record-bytes schedule b i in
+      let l = record-length schedule i (omega arith) in
+      (step-right m rec p input l, walk k schedule b (i + 1) (omega arith) (monitorStep C image m rec) (step-kept m rec p input l))
+
+  run-right : (s : State) → IsReset s → (schedule : List ℕ) → Schedule C image schedule → RunRight C image tables s schedule
+  unfolding runOf
+  run-right s h schedule sc =
+      let n = length schedule / recordLength in
+      let w : Walk C image n tables schedule 0 (fromReset C image s) = walk n schedule (sc .bytes) 0 (omega arith) (fromReset C image s) (reset-kept s h) in
+      let d = walk-run C image n tables schedule 0 (fromReset C image s) w in
+      let z : 0 + n ≡ n = omega arith in
+      record { steps = rw (size, sc .whole) (d .0 ∙ z); stop = rw (size, sc .whole) (d .1); walk = w }
+
+  -- demand 3 for a certificate that breaks no rule
+  pub demand-met : Demand3 C image
+  demand-met = (tables, run-right)

@@ -18,7 +18,9 @@ use Rattle.certificate.specs.Rules.{romEnd}
 use Rattle.certificate.specs.Verdicts.{verdictOn, verdictOf}
 use Rattle.safety.specs.Statement.{Demand3}
 use Rattle.safety.specs.Accepted.{accepts, never-refused}
+use Rattle.safety.specs.Edge.{certificate-facts}
 use Rattle.safety.specs.Runs.{take-bytes}
+use Rattle.safety.specs.Sound.{demand-met}
 
 -- a part of bytes holds bytes
 part-bytes : (b : List ℕ) → ((i : ℕ) → getD b i 0 < 256) → (i w m k j : ℕ) → getD (part b i w m k) j 0 < 256
@@ -58,3 +60,12 @@ accepted-pair image cert h =
       certLength = eqb→eq (length cert) certificateLength (of-true (eqb (length cert) certificateLength) (p .1));
       verdict = l .1;
     }
+
+-- the theorem: an accepted image and certificate meet demand 3
+pub demand3 : (image cert : List ℕ) → ((i : ℕ) → getD image i 0 < 256) → ((i : ℕ) → getD cert i 0 < 256) → verdictOf image cert ≡ Accepted
+    → Demand3 (certificateOf cert) image
+demand3 image cert imageBytes certBytes h =
+    let p = accepted-pair image cert h in
+    let C = certificateOf cert in
+    let ok = accepts C image (p .verdict) in
+    demand-met C image ok (certificate-facts C image ok (compare-byte cert certBytes)) (p .imageLength) imageBytes
