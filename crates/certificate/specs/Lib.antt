@@ -1,4 +1,2 @@
 pub mod Layout
-pub mod Rules
 pub mod Summaries
-pub mod Verdicts

@@ -278,7 +278,7 @@ pub fn form(first: u8, b1: u8, b2: u8, b3: u8) -> Decoded
 }
 
 // The byte at a position, 0 past the end.
-fn byte_at(s: &[u8], at: usize) -> u8
+pub fn byte_at(s: &[u8], at: usize) -> u8
     ensures { λ r. ⌜ r ≡ getD (now (s .entry)) at 0 ⌝ }
 {
     if at < s.len() { s[at] } else { 0 }
@@ -292,7 +292,7 @@ pub fn decode(s: &[u8], at: usize) -> Decoded
         return Decoded::CutOff;
     }
     let first = s[at];
-    let n = isa::length_of(first) as usize;
+    let n = opcode_words::length(first) as usize;
     if s.len() - at < n {
         return Decoded::CutOff;
     }

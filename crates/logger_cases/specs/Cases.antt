@@ -19,7 +19,7 @@ use Rattle.semantics.specs.Step.{stepOf}
 use Rattle.certificate.specs.declared.Verdict.{Verdict}
 use Rattle.certificate.specs.declared.Verdict.the-variants.{Accepted, Refused}
 use Rattle.certificate.specs.Layout.{certificateFrom, certificateOf}
-use Rattle.certificate.specs.Verdicts.{verdictOn, verdictOf}
+use Rattle.safety.specs.Verdicts.{verdictOn, verdictOf}
 use Rattle.logger_cases.specs.Gathered.{upTo, certificateBytes, bytes-length, certificate-is}
 use Rattle.logger_cases.specs.Program.{imageWith, entry, cell, row, certificateWith, entry-length, cell-length, row-length}
 use Rattle.logger_cases.specs.Opened.{opened}

@@ -12,8 +12,8 @@ use Rattle.semantics.specs.Execute.{callOf, executeOf}
 use Rattle.semantics.specs.Step.{actingRequests, entryDue, finishOf, afterDecode, instructionStep, modeStep, stepAfterRequests, stepWith, stepOf}
 use Rattle.certificate.specs.Layout.{certificateFrom}
 use Rattle.certificate.specs.Summaries.{summaryOf}
-use Rattle.certificate.specs.Rules.{meets, low, high, claimed, boundAt, worst, used, cellRule, claimable, claimRule, compareRule, emptyEntry, entryRule, addressRule, startRule, bareRule, rule20, rule21, rule22, rule23, rule24, rule25, rule26, rule27, successor, callTarget, writable, reach, callDepth, narrowed, left, feasible, claimFollows, compareFollows, edge26, survives, call26, firstValue, sameFirst, boundAfter, boundAfterCall, paid, edge27, rowRule}
-use Rattle.certificate.specs.Verdicts.{summaryFrom, summaryAt, nextAt, costAt, rulesAt, firstBroken, numberAt, scan, verdictOn}
+use Rattle.safety.specs.Rules.{meets, low, high, claimed, boundAt, worst, used, cellRule, claimable, claimRule, compareRule, emptyEntry, entryRule, addressRule, startRule, bareRule, rule20, rule21, rule22, rule23, rule24, rule25, rule26, rule27, successor, callTarget, writable, reach, callDepth, narrowed, left, feasible, claimFollows, compareFollows, edge26, survives, call26, firstValue, sameFirst, boundAfter, boundAfterCall, paid, edge27, rowRule}
+use Rattle.safety.specs.Verdicts.{summaryFrom, summaryAt, nextAt, costAt, rulesAt, firstBroken, numberAt, scan, verdictOn}
 use Rattle.logger_cases.specs.Program.{imageWith, entry, cell, row}
 
 unfoldable pub opened : ℕ

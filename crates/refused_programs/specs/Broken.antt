@@ -15,7 +15,7 @@ use Rattle.semantics.specs.Step.{stepOf}
 use Rattle.semantics.specs.Run.{runOf}
 use Rattle.certificate.specs.declared.Verdict.the-variants.{Refused}
 use Rattle.certificate.specs.Layout.{Certificate}
-use Rattle.certificate.specs.Verdicts.{verdictOn}
+use Rattle.safety.specs.Verdicts.{verdictOn}
 use Rattle.safety.specs.Statement.{Demand3, Schedule, RunRight, Walk, fromReset, monitorStep, eventOf}
 use Rattle.refused_programs.specs.Programs.{stoppingImage, stoppingCertificate, pointingImage, pointingCertificate, pushingImage, pushingCertificate, loopingImage, loopingCertificate}
 use Rattle.refused_programs.specs.Opened.{opened}

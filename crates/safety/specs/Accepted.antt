@@ -13,8 +13,8 @@ use Rattle.base.specs.Formula.{Formula, Holds, decide, sound, of-true, same?}
 use Rattle.certificate.specs.declared.Verdict.{Verdict}
 use Rattle.certificate.specs.declared.Verdict.the-variants.{Accepted, Refused}
 use Rattle.certificate.specs.Layout.{Certificate}
-use Rattle.certificate.specs.Rules.{romEnd, rule20, rule21, rule22, rule23, rule24, rule25, rule26, rule27}
-use Rattle.certificate.specs.Verdicts.{Rule, summaryAt, nextAt, costAt, rulesAt, firstBroken, numberAt, scan, verdictOn}
+use Rattle.safety.specs.Rules.{romEnd, rule20, rule21, rule22, rule23, rule24, rule25, rule26, rule27}
+use Rattle.safety.specs.Verdicts.{Rule, summaryAt, nextAt, costAt, rulesAt, firstBroken, numberAt, scan, verdictOn}
 
 isAccepted : Verdict → ℕ
 isAccepted Accepted = 0

@@ -22,7 +22,7 @@ use Rattle.certificate.specs.declared.Flow.{Flow}
 use Rattle.certificate.specs.declared.Flow.the-variants.{Call, Return}
 use Rattle.certificate.specs.declared.Summary.{Summary}
 use Rattle.certificate.specs.Layout.{Certificate}
-use Rattle.certificate.specs.Rules.{noCell, ramEnd, unloaded, plainEdge, Edge, worst, boundAt, flowAllowed, calls, ends, successor, callTarget, callDepth, claimsFollow, survives, call26, sameFirst, boundAfterCall, paid, rule21, rule22, rule25, rule26, rule27}
+use Rattle.safety.specs.Rules.{noCell, ramEnd, unloaded, plainEdge, Edge, worst, boundAt, flowAllowed, calls, ends, successor, callTarget, callDepth, claimsFollow, survives, call26, sameFirst, boundAfterCall, paid, rule21, rule22, rule25, rule26, rule27}
 use Rattle.safety.specs.Statement.{Opener, byReset, byCall, byInterrupt, Frame, spends, outward}
 use Rattle.safety.specs.Invariant.{at, Registers, Awake, Claims, firstNow, boundNow, reserve, CallLink, Link, frameSize, Chain, Invariant}
 use Rattle.safety.specs.Facts.{Global, EntryFacts}

@@ -6,7 +6,7 @@ use mathlib.Core.List.{List, [], _∷_}
 use Prim.Native.Nat.{ℕ, _+_, _≤_, _<_}
 use native.Mathlib.Omega.{arith}
 use Rattle.certificate.specs.Layout.{Certificate}
-use Rattle.certificate.specs.Rules.{ramEnd}
+use Rattle.safety.specs.Rules.{ramEnd}
 use Rattle.safety.specs.Statement.{Opener, byReset, byCall, byInterrupt, Frame, spends, outward}
 use Rattle.safety.specs.Invariant.{at, Agree, AgreeMain, Room, Link, frameSize, Chain}
 use Rattle.safety.specs.Facts.{Global}

@@ -25,7 +25,7 @@ use Rattle.certificate.specs.declared.StackEffect.the-variants.{Same, Push, Pop
 use Rattle.certificate.specs.declared.Summary.{Summary}
 use Rattle.certificate.specs.Summaries.{reading, moving, into, binaryValue, binaryFlags, binarySummary, modifyValue, modifyFlags, loadSummary, summaryOf}
 use Rattle.certificate.specs.Layout.{Certificate}
-use Rattle.certificate.specs.Rules.{noCell, directRead}
+use Rattle.safety.specs.Rules.{noCell, directRead}
 use Rattle.safety.specs.Edge.{Copies, Compares}
 
 -- the register that is copied is the one read

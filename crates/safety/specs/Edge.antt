@@ -21,8 +21,8 @@ use Rattle.certificate.specs.declared.Write.{Write}
 use Rattle.certificate.specs.declared.FlagEffect.{FlagEffect}
 use Rattle.certificate.specs.declared.FlagEffect.the-variants.{Kept, Changed, Compared}
 use Rattle.certificate.specs.Layout.{Certificate}
-use Rattle.certificate.specs.Rules.{noCell, ramEnd, Edge, meets, low, high, claimed, boundAt, worst, claimRule, emptyEntry, entryRule, addressRule, startRule, rule20, writable, directWrite, reach, pointedWrite, Change, changeOf, narrowed, left, feasible, follows, claimFollows, claimsFollow, isUnchanged, flagsFollow, compareFollows, firstValue, sameFirst, boundAlong, boundAfter, paid}
-use Rattle.certificate.specs.Rules.Change.{unchanged, changed}
+use Rattle.safety.specs.Rules.{noCell, ramEnd, Edge, meets, low, high, claimed, boundAt, worst, claimRule, emptyEntry, entryRule, addressRule, startRule, rule20, writable, directWrite, reach, pointedWrite, Change, changeOf, narrowed, left, feasible, follows, claimFollows, claimsFollow, isUnchanged, flagsFollow, compareFollows, firstValue, sameFirst, boundAlong, boundAfter, paid}
+use Rattle.safety.specs.Rules.Change.{unchanged, changed}
 use Rattle.safety.specs.Invariant.{at, Registers, Claims, CompareHolds, firstNow, boundNow, Effect, FlagsAfter}
 use Rattle.safety.specs.Accepted.{Accepts}
 use Rattle.safety.specs.Facts.{EntryFacts, is-writable}

@@ -10,8 +10,8 @@ use lib.ListN.{getD}
 use Rattle.base.specs.Formula.{Holds, same?, le?, case-bool}
 use Rattle.chip.specs.Registers.{mappedOf}
 use Rattle.certificate.specs.Layout.{Certificate}
-use Rattle.certificate.specs.Rules.{ramEnd, unloaded, noCell, worst, used, cellRule, claimable, claimRule, compareRule, entryRule, addressRule, startRule, bareRule, rule20, rowRule, rule25, rule27, writable}
-use Rattle.certificate.specs.Verdicts.{summaryAt, nextAt, costAt}
+use Rattle.safety.specs.Rules.{ramEnd, unloaded, noCell, worst, used, cellRule, claimable, claimRule, compareRule, entryRule, addressRule, startRule, bareRule, rule20, rowRule, rule25, rule27, writable}
+use Rattle.safety.specs.Verdicts.{summaryAt, nextAt, costAt}
 use Rattle.semantics.specs.Step.{vectorOf}
 use Rattle.safety.specs.Accepted.{Accepts, RulesHold}
 

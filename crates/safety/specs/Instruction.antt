@@ -26,9 +26,9 @@ use Rattle.certificate.specs.declared.Flow.{Flow}
 use Rattle.certificate.specs.declared.Flow.the-variants.{Step, Call, Return, InterruptReturn, Forbidden}
 use Rattle.certificate.specs.declared.Summary.{Summary}
 use Rattle.certificate.specs.Layout.{Certificate}
-use Rattle.certificate.specs.Rules.{flowAllowed, rule22, rule25}
+use Rattle.safety.specs.Rules.{flowAllowed, rule22, rule25}
 use Rattle.certificate.specs.Summaries.{summaryOf, forbidden}
-use Rattle.certificate.specs.Verdicts.{summaryFrom, sizeFrom, summaryAt, nextAt, costAt}
+use Rattle.safety.specs.Verdicts.{summaryFrom, sizeFrom, summaryAt, nextAt, costAt}
 use Rattle.safety.specs.Statement.{Frame, Open, Transfer, stays, calls, returns, returnsFromInterrupt, transferOf, loadsTop, charge, outward, spends, opening, closing, PointersRight, ReturnsRight, Within, transferred, Opener, byCall, byInterrupt}
 use Rattle.safety.specs.Invariant.{at, Awake, Invariant, Refines, Does, Shaped, tableOf}
 use Rattle.safety.specs.Accepted.{Accepts, RulesHold}

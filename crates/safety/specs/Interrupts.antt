@@ -22,7 +22,7 @@ use Rattle.certificate.specs.declared.Flow.{Flow}
 use Rattle.certificate.specs.declared.Flow.the-variants.{InterruptReturn}
 use Rattle.certificate.specs.declared.Summary.{Summary}
 use Rattle.certificate.specs.Layout.{Certificate}
-use Rattle.certificate.specs.Rules.{ramEnd, plainEdge, boundAt, worst, flowAllowed, paid, rule22}
+use Rattle.safety.specs.Rules.{ramEnd, plainEdge, boundAt, worst, flowAllowed, paid, rule22}
 use Rattle.safety.specs.Statement.{Opener, byReset, byCall, byInterrupt, Frame}
 use Rattle.safety.specs.Invariant.{at, Registers, Awake, Claims, reserve, InterruptLink, Link, frameSize, Chain, Invariant}
 use Rattle.safety.specs.Facts.{Global, EntryFacts}

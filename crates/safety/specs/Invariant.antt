@@ -32,8 +32,8 @@ use Rattle.certificate.specs.declared.Control.{Control}
 use Rattle.certificate.specs.declared.Control.the-variants.{Enable, Disable, Wait}
 use Rattle.certificate.specs.declared.Summary.{Summary}
 use Rattle.certificate.specs.Layout.{Certificate}
-use Rattle.certificate.specs.Rules.{ramEnd, unloaded, low, high, boundAt, Change, changeOf}
-use Rattle.certificate.specs.Rules.Change.{unchanged, changed}
+use Rattle.safety.specs.Rules.{ramEnd, unloaded, low, high, boundAt, Change, changeOf}
+use Rattle.safety.specs.Rules.Change.{unchanged, changed}
 use Rattle.safety.specs.Statement.{Opener, byReset, byCall, byInterrupt, Frame, PointersRight}
 
 -- what stands in a register

@@ -17,9 +17,11 @@ pub mod RefineControl
 pub mod RefineMove
 pub mod RefineOperands
 pub mod RefineStack
+pub mod Rules
 pub mod Runs
 pub mod Sound
 pub mod Statement
 pub mod StepRules
 pub mod Theorem
 pub mod Transfers
+pub mod Verdicts

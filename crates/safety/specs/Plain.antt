@@ -24,8 +24,8 @@ use Rattle.certificate.specs.declared.Flow.{Flow}
 use Rattle.certificate.specs.declared.Flow.the-variants.{Step}
 use Rattle.certificate.specs.declared.Summary.{Summary}
 use Rattle.certificate.specs.Layout.{Certificate}
-use Rattle.certificate.specs.Rules.{noCell, ramEnd, unloaded, Edge, boundAt, controlAllowed, enableRule, stackLoad, stackRule, depthAfter, edges, successor, changeOf, edge26, edge27, rule21, rule22, rule23, rule24, rule25, rule26, rule27}
-use Rattle.certificate.specs.Verdicts.{summaryAt, nextAt, costAt}
+use Rattle.safety.specs.Rules.{noCell, ramEnd, unloaded, Edge, boundAt, controlAllowed, enableRule, stackLoad, stackRule, depthAfter, edges, successor, changeOf, edge26, edge27, rule21, rule22, rule23, rule24, rule25, rule26, rule27}
+use Rattle.safety.specs.Verdicts.{summaryAt, nextAt, costAt}
 use Rattle.safety.specs.Statement.{Frame, spends, outward}
 use Rattle.safety.specs.Invariant.{at, Registers, Claims, firstNow, reserve, Chain, Stack, Invariant, Refines, Before, spAfter, enabledAfter}
 use Rattle.safety.specs.Accepted.{RulesHold}
@@ -33,6 +33,7 @@ use Rattle.safety.specs.Facts.{Global, EntryFacts}
 use Rattle.safety.specs.Memory.{enabled-same}
 use Rattle.safety.specs.Chain.{Keeps, chain-room, chain-top, chain-cost, chain-keep}
 use Rattle.safety.specs.Coherent.{Coherent, reads-copies}
+use Rattle.safety.specs.Transfers.{loadedAfter}
 use Rattle.safety.specs.Edge.{CertificateFacts, taken, free-range, first-in, first-out, feasible-now, claims-follow, compare-follows, cost-follows, kept-effect, kept-cell}
 
 -- Rules 21 to 27 for a summary at an address, the address behind it and its cost --
@@ -70,13 +71,6 @@ pub edge-of : (C : Certificate) (flow : Flow) (n : ℕ) (to : RomAddr) → flow 
 edge-of C flow n to e next r rule m =
     edge-taken C n to next (at r flagsCell) rule (subst (λ (k : Flow). Holds (edges C k next rule)) e m)
 
--- SP is loaded from its load on
-abbrev pub loadedAfter : StackEffect → Bool → Bool
-loadedAfter Same ld = ld
-loadedAfter Push ld = ld
-loadedAfter Pop ld = ld
-loadedAfter (Load n) ld = true
-
 -- claims stay where the cells of the routine's own class stay
 pub claims-kept : (C : Certificate) (t : ℕ) (r r′ : List ℕ) → EntryFacts C t → Registers r′
     → ((x : ℕ) → x < ramEnd → C .class x ≡ C .side (C .routine t) → at r′ x ≡ at r x) → Claims C t r → Claims C t r′
@@ -112,18 +106,6 @@ module _ (C : Certificate) (image : List ℕ) (global : Global C image) where
   before-of false r a f fs v =
       let l = v .stack .unloaded in
       record { registers = v .registers; claims = v .claims; lowest = λ d. absurd (omega arith); highest = λ d. absurd (omega arith) }
-
-  -- SP, once loaded, lies between floor and top
-  pub stack-within : (ld : Bool) (r : List ℕ) (a : ℕ) (f : Frame) (fs : List Frame) → Invariant C ld r a f fs → ld ≡ true
-      → (C .floor ≤ at r spCell) × (at r spCell ≤ C .top)
-  stack-within true r a f fs v q =
-      let b = before-of true r a f fs v in
-      let l = v .stack in
-      let h = b .lowest (l .loaded) in
-      let k = b .highest (l .loaded) in
-      let d = l .room in
-      (omega arith, omega arith)
-  stack-within false r a f fs v q = absurd (subst T (sym q) tt)
 
   -- the chain of the innermost routine, after a step that keeps what it must
   pub chain-step : (c : ℕ) (r r′ : List ℕ) (a : ℕ) (f : Frame) (fs : List Frame) → EntryFacts C a → C .routine a ≡ f .routine

@@ -14,7 +14,7 @@ use Rattle.certificate.specs.declared.Flow.{Flow}
 use Rattle.certificate.specs.declared.Flow.the-variants.{Step, Call, Return, InterruptReturn, Forbidden}
 use Rattle.certificate.specs.declared.Summary.{Summary}
 use Rattle.certificate.specs.Layout.{Certificate}
-use Rattle.certificate.specs.Rules.{unloaded}
+use Rattle.safety.specs.Rules.{unloaded}
 use Rattle.certificate.specs.Summaries.{summaryOf, onward}
 use Rattle.safety.specs.Statement.{Frame}
 use Rattle.safety.specs.Invariant.{Stack, Before, Does, Shaped}

@@ -24,8 +24,8 @@ use Rattle.certificate.specs.declared.NewValue.the-variants.{Unknown}
 use Rattle.certificate.specs.declared.Write.{Write}
 use Rattle.certificate.specs.declared.CodeAccess.{CodeAccess}
 use Rattle.certificate.specs.Layout.{Certificate}
-use Rattle.certificate.specs.Rules.{low, high, claimed, rule23, rule24, codeInRom}
-use Rattle.certificate.specs.Rules.Change.{unchanged, changed}
+use Rattle.safety.specs.Rules.{low, high, claimed, rule23, rule24, codeInRom}
+use Rattle.safety.specs.Rules.Change.{unchanged, changed}
 use Rattle.certificate.specs.Summaries.{summaryOf, codeAccess, reaching}
 use Rattle.safety.specs.Invariant.{at, Registers, Refines, Before, Effect, Does, Shaped, SmallOffset}
 use Rattle.safety.specs.Facts.{Global, EntryFacts, Writable, is-writable}

@@ -34,7 +34,7 @@ use Rattle.certificate.specs.declared.StackEffect.the-variants.{Same, Load}
 use Rattle.certificate.specs.declared.Summary.{Summary}
 use Rattle.certificate.specs.Layout.{Certificate}
 use Rattle.certificate.specs.Summaries.{writeTo, reading, moving, binaryValue, binaryFlags, binarySummary, modifyValue, modifyFlags, summaryOf}
-use Rattle.certificate.specs.Rules.{rule23, rule24}
+use Rattle.safety.specs.Rules.{rule23, rule24}
 use Rattle.safety.specs.Statement.{InTable}
 use Rattle.safety.specs.Invariant.{at, Registers, FlagsAfter, Refines, Before, readTable, writeTable, tableOf, Does, Small, Shaped}
 use Rattle.safety.specs.Facts.{Global, EntryFacts}

@@ -29,8 +29,8 @@ use Rattle.certificate.specs.declared.Control.{Control}
 use Rattle.certificate.specs.declared.Summary.{Summary}
 use Rattle.certificate.specs.Layout.{Certificate}
 use Rattle.certificate.specs.Summaries.{writeTo, reading}
-use Rattle.certificate.specs.Rules.{ramEnd, low, high, claimed, mapped, writable, reach, directRead, directWrite, pointedRead, pointedWrite, Change, changeOf}
-use Rattle.certificate.specs.Rules.Change.{unchanged, changed}
+use Rattle.safety.specs.Rules.{ramEnd, low, high, claimed, mapped, writable, reach, directRead, directWrite, pointedRead, pointedWrite, Change, changeOf}
+use Rattle.safety.specs.Rules.Change.{unchanged, changed}
 use Rattle.safety.specs.Statement.{InTable, PointersRight}
 use Rattle.safety.specs.Invariant.{at, Registers, Claims, Effect, FlagsAfter, spAfter, enabledAfter, Refines, readTable, writeTable, tableOf, Does, Small}
 use Rattle.safety.specs.Facts.{Global, EntryFacts, Writable, is-writable}

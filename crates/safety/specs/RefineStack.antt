@@ -21,7 +21,7 @@ use Rattle.certificate.specs.declared.FlagEffect.the-variants.{Kept}
 use Rattle.certificate.specs.declared.StackEffect.the-variants.{Pop}
 use Rattle.certificate.specs.declared.Summary.{Summary}
 use Rattle.certificate.specs.Layout.{Certificate}
-use Rattle.certificate.specs.Rules.{unloaded, rule23, rule24}
+use Rattle.safety.specs.Rules.{unloaded, rule23, rule24}
 use Rattle.certificate.specs.Summaries.{summaryOf, moving, writeTo}
 use Rattle.safety.specs.Invariant.{at, Registers, Claims, Before, Does, Shaped, tableOf}
 use Rattle.safety.specs.Facts.{Global, EntryFacts}

@@ -33,7 +33,7 @@ use Rattle.semantics.specs.Run.{recordAt, runOf}
 use Rattle.semantics.specs.Reset.{IsReset}
 use Rattle.certificate.specs.Layout.{Certificate}
 use Rattle.certificate.specs.Summaries.{summaryOf}
-use Rattle.certificate.specs.Verdicts.{summaryAt, costAt}
+use Rattle.safety.specs.Verdicts.{summaryAt, costAt}
 use Rattle.safety.specs.Statement.{Frame, Open, Event, entered, waited, executed, decodedEvent, modeEvent, dueEvent, eventOf, Monitored, spent, moved, loadedBy, loadsTop, afterStep, monitorStep, EventRight, InstructionRight, Within, StepRight, Walk, Schedule, RunRight, fromReset, Demand3, opening, byReset, byInterrupt}
 use Rattle.safety.specs.Invariant.{at, Registers, Awake, Invariant, tableOf}
 use Rattle.safety.specs.Accepted.{Accepts}

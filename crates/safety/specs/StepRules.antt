@@ -4,9 +4,8 @@ use Prim.Native.Nat.{ℕ}
 use Rattle.base.specs.Formula.{Holds}
 use Rattle.certificate.specs.declared.Summary.{Summary}
 use Rattle.certificate.specs.Layout.{Certificate}
-use Rattle.certificate.specs.Rules.{rule23, rule24, stackRule, enableRule}
+use Rattle.safety.specs.Rules.{rule23, rule24, stackRule, enableRule}
 
--- what the rules at a say of an action that stays in its routine
 pub record StepRules (C : Certificate) (a : ℕ) (S : Summary) : Type 0 where
   pub r23 : Holds (rule23 C a S)
   pub r24 : Holds (rule24 C a S)

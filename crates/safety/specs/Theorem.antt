@@ -14,8 +14,8 @@ use Rattle.base.specs.Formula.{of-true, sound, test, _&_}
 use Rattle.certificate.specs.declared.Verdict.{Verdict}
 use Rattle.certificate.specs.declared.Verdict.the-variants.{Accepted, Refused}
 use Rattle.certificate.specs.Layout.{certificateLength, certificateFrom, part, certificateOf}
-use Rattle.certificate.specs.Rules.{romEnd}
-use Rattle.certificate.specs.Verdicts.{verdictOn, verdictOf}
+use Rattle.safety.specs.Rules.{romEnd}
+use Rattle.safety.specs.Verdicts.{verdictOn, verdictOf}
 use Rattle.safety.specs.Statement.{Demand3}
 use Rattle.safety.specs.Accepted.{accepts, never-refused}
 use Rattle.safety.specs.Edge.{certificate-facts}

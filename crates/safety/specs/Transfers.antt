@@ -19,7 +19,7 @@ use Rattle.certificate.specs.declared.StackEffect.the-variants.{Same, Push, Pop
 use Rattle.certificate.specs.declared.Flow.{Flow}
 use Rattle.certificate.specs.declared.Flow.the-variants.{Step, Call, Return, InterruptReturn, Forbidden}
 use Rattle.certificate.specs.Layout.{Certificate}
-use Rattle.certificate.specs.Rules.{rule23}
+use Rattle.safety.specs.Rules.{rule23}
 use Rattle.certificate.specs.Summaries.{summaryOf, binarySummary, loadSummary, onward}
 use Rattle.safety.specs.Statement.{stays, transferOf, loadsTop}
 

@@ -11,8 +11,8 @@ returns c = rw (le-ltb _ _ (c .if1 .taken))
 shared-slice-read-first : tie.Need-shared-slice-read-first
 shared-slice-read-first c = search needs
 
-length-of-requires : tie.Need-length-of-requires
-length-of-requires c κs = search needs
+length-requires : tie.Need-length-requires
+length-requires c κs = search needs
 
 cast-n : tie.Need-cast-n
 cast-n c = search needs
@@ -22,7 +22,7 @@ sub-if2 c = search needs
 
 returns-2 : tie.Need-returns-2
 unfolding decodeAt
-returns-2 c = rw (lt-ltb _ _ (c .before .before .before .if1 .left), lt-leb _ _ (rw (c .before .length-of .ensures) at (c .if2 .taken)))
+returns-2 c = rw (lt-ltb _ _ (c .before .before .before .if1 .left), lt-leb _ _ (rw (c .before .length .ensures) at (c .if2 .taken)))
 
 add-byte-at : tie.Need-add-byte-at
 add-byte-at c = search needs
@@ -49,7 +49,7 @@ returns-3 : tie.Need-returns-3
 unfolding decodeAt
 returns-3 c = rw (
   lt-ltb _ _ (c .before .before .before .before .before .before .before .if1 .left),
-  le-leb _ _ (rw (c .before .before .before .before .before .length-of .ensures) at (c .before .before .before .before .if2 .left)),
+  le-leb _ _ (rw (c .before .before .before .before .before .length .ensures) at (c .before .before .before .before .if2 .left)),
   ← c .before .before .before .byte-at .ensures,
   ← c .before .before .byte-at2 .ensures,
   ← c .before .byte-at3 .ensures,
@@ -62,7 +62,7 @@ decode-spec =
     (tie.spec
     returns
     shared-slice-read-first
-    length-of-requires
+    length-requires
     cast-n
     sub-if2
     returns-2

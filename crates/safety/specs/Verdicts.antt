@@ -14,12 +14,12 @@ use Rattle.isa.specs.declared.Instruction.{Instruction}
 use Rattle.isa.specs.Map.{cyclesOf}
 use Rattle.decode.specs.Decode.{decodeAt}
 use Rattle.action.specs.Action.{actionOf}
 use Rattle.certificate.specs.declared.Summary.{Summary}
 use Rattle.certificate.specs.declared.Verdict.{Verdict}
 use Rattle.certificate.specs.declared.Verdict.the-variants.{Accepted, Refused}
 use Rattle.certificate.specs.Layout.{Certificate, certificateLength, certificateOf}
 use Rattle.certificate.specs.Summaries.{summaryOf, forbidden}
-use Rattle.certificate.specs.Rules.{romEnd, rule20, rule21, rule22, rule23, rule24, rule25, rule26, rule27}
+use Rattle.safety.specs.Rules.{romEnd, rule20, rule21, rule22, rule23, rule24, rule25, rule26, rule27}
 
 -- the instruction at an address: its summary, and the address behind it (one byte where there is none)
 unfoldable pub summaryFrom : Outcome (Instruction × ℕ) → ℕ → Summary

@@ -1,0 +1,46 @@
+use Rattle.semantics.specs.Execute.{modifyOf}
+use borrow.Author.Needs.{needs}
+use Rattle.execute.proofs.modify.Statement.{statement}
+use Rattle.execute.proofs.modify.Tie as tie
+
+place-of-requires : tie.Need-place-of-requires
+place-of-requires c κs = search needs
+
+load-requires : tie.Need-load-requires
+load-requires c κs = search needs
+
+element-copy-out-carry : tie.Need-element-copy-out-carry
+element-copy-out-carry c = search needs
+
+carry-requires : tie.Need-carry-requires
+carry-requires c κs = search needs
+
+modify-requires : tie.Need-modify-requires
+modify-requires c κs = search needs
+
+store-requires : tie.Need-store-requires
+store-requires c κs = search needs
+
+with-flags-requires : tie.Need-with-flags-requires
+with-flags-requires c κs = search needs
+
+goes-on-requires : tie.Need-goes-on-requires
+goes-on-requires c κs = search needs
+
+returns : tie.Need-returns
+unfolding modifyOf
+returns c = (rw (c .before .with-flags .ensures, c .before .before .before .store .ensures, c .before .before .before .before .before .modify .ensures, c .before .before .before .before .before .before .carry .ensures, c .before .before .before .before .before .before .before .before .load .ensures, c .before .before .before .before .before .before .before .before .before .before .before .place-of .ensures), simp (c .goes-on .ensures, c .before .before .before .before .before .before .before .before .before .before .before .place-of .ensures))
+
+pub modify-spec : {M : Type 1} → statement M
+modify-spec =
+    tie.close
+    (tie.spec
+    place-of-requires
+    load-requires
+    element-copy-out-carry
+    carry-requires
+    modify-requires
+    store-requires
+    with-flags-requires
+    goes-on-requires
+    returns)

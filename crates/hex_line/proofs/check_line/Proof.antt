@@ -1,0 +1,73 @@
+-- `check_line`: the length, then the end line, then the fields, by what the callees promise.
+-- Assumes nothing.
+use mathlib.Core.Path.{sym, ap, _∙_}
+use lib.Seq.{length-take-le}
+use Rattle.hex_line.specs.Record.{parsedOutcome}
+use Rattle.hex_line.specs.Line.{readLine}
+use borrow.Author.Needs.{needs}
+use Rattle.hex_line.proofs.check_line.Statement.{statement}
+use Rattle.hex_line.proofs.check_line.Tie as tie
+
+is-buffer-length-requires : tie.Need-is-buffer-length-requires
+is-buffer-length-requires c κs = search needs
+
+returns : tie.Need-returns
+unfolding readLine
+returns c = rw (sym (c .before .before .is-buffer-length .ensures) ∙ c .before .if1 .taken, c .if2 .taken)
+
+body-length-requires : tie.Need-body-length-requires
+body-length-requires c κs = search needs
+
+slice-aggregate-body : tie.Need-slice-aggregate-body
+slice-aggregate-body c = sym (length-take-le _ _ (c .before .body-length .ensures .1))
+
+parse-requires : tie.Need-parse-requires
+parse-requires c κs = search needs
+
+enum-known-f : tie.Need-enum-known-f
+enum-known-f c = search needs
+
+answer-requires : tie.Need-answer-requires
+answer-requires c κs = rw (c .before .f .given .1) at (c .before .before .before .parse .ensures .1)
+
+enum-told : tie.Need-enum-told
+enum-told c = search needs
+
+returns-2 : tie.Need-returns-2
+unfolding readLine
+returns-2 c = rw (
+  sym (c .before .before .before .before .before .before .before .before .before .is-buffer-length .ensures) ∙ c .before .before .before .before .before .before .before .before .if1 .taken,
+  c .before .before .before .before .before .before .before .if2 .left,
+  ← c .before .before .before .before .before .before .body-length .ensures .0,
+  sym (c .before .before .before .before .parse .ensures .0) ∙ ap parsedOutcome (c .before .before .f .given .1),
+)
+    (c .answer .ensures)
+
+returns-3 : tie.Need-returns-3
+unfolding readLine
+returns-3 c = rw (
+  sym (c .before .before .before .before .before .before .before .is-buffer-length .ensures) ∙ c .before .before .before .before .before .before .if1 .taken,
+  c .before .before .before .before .before .if2 .left,
+  ← c .before .before .before .before .body-length .ensures .0,
+  sym (c .before .before .parse .ensures .0) ∙ ap parsedOutcome (c .enum-told .given .1),
+)
+
+returns-4 : tie.Need-returns-4
+unfolding readLine
+returns-4 c = rw (sym (c .before .is-buffer-length .ensures) ∙ c .if1 .left)
+
+pub check-line-spec : {M : Type 1} → statement M
+check-line-spec =
+    tie.close
+    (tie.spec
+    is-buffer-length-requires
+    returns
+    body-length-requires
+    slice-aggregate-body
+    parse-requires
+    enum-known-f
+    answer-requires
+    enum-told
+    returns-2
+    returns-3
+    returns-4)

@@ -1,0 +1,117 @@
+-- Laws on lines: a line that is read fits into the buffer, no line changes the buffer's length, and the recursions one step on.
+-- Assumes nothing.
+use Prim.Native.Nat.{ℕ, zero, suc, _+_, _*_, _%_, _≤_, _<_}
+use mathlib.Core.Path.{_≡_, refl, ap, _∙_}
+use mathlib.Core.Bool.{Bool, true, false}
+use mathlib.Core.List.{List, [], _∷_, _++_}
+use native.Mathlib.Numerals.{add-one}
+use native.Mathlib.Omega.{arith}
+use lib.ListN.{length, getD, take, drop, length-append, length-drop}
+use lib.Seq.{length-take-le}
+use lib.Dec.{eqb, ltb, leb}
+use borrow.Author.Tests.{eqb-true, leb-true}
+use Rattle.base.specs.Choice.{pick}
+use Rattle.base.specs.Outcome.{Outcome, andThen, onOutcome}
+use Rattle.base.specs.Outcome.Outcome.{value, refused}
+use Rattle.hex_line.specs.declared.Reader.{Reader}
+use Rattle.hex_line.specs.declared.Fields.{Fields}
+use Rattle.hex_line.specs.Record.{pairAt, added, sumOf, dataOf, countOf, addressOf, fieldsOf, parseBody, bodyOf}
+use Rattle.hex_line.specs.Line.{bufferLength, readEnd, readData, readFields, readLine, stored, lineBuffer}
+
+-- one more pair
+pub sumOf-more : (l : List ℕ) (i : ℕ) → sumOf l (i + 1) ≡ added (sumOf l i) (pairAt l (i * 2 + 1))
+unfolding sumOf
+sumOf-more l i = rw (add-one i)
+
+pub dataOf-more : (l : List ℕ) (i : ℕ) → dataOf l (i + 1) ≡ dataOf l i ++ (pairAt l (i * 2 + 9) % 256 ∷ [])
+unfolding dataOf
+dataOf-more l i = rw (add-one i)
+
+pub length-dataOf : (l : List ℕ) (n : ℕ) → length (dataOf l n) ≡ n
+unfolding dataOf
+length-dataOf l zero = refl
+length-dataOf l (suc n) =
+    length-append (dataOf l n) (pairAt l (n * 2 + 9) % 256 ∷ []) ∙ (ap (λ (k : ℕ). k + 1) (length-dataOf l n) ∙ add-one n)
+
+-- a record that is read ends within the buffer; a refusal has a number above 0
+abbrev Within : ℕ → ℕ → Outcome Reader → Type 0
+Within end size (value next) = end ≤ size
+Within end size (refused n) = 0 < n
+
+within-pick : (end size : ℕ) (t : Bool) (x y : Outcome Reader) → (t ≡ true → Within end size x) → (t ≡ false → Within end size y)
+    → Within end size (pick t x y)
+within-pick end size true x y p q = p refl
+within-pick end size false x y p q = q refl
+
+module _ (reader : Reader) (size : ℕ) (f : Fields) where
+  abbrev end : ℕ
+  end = f .address + f .count
+
+  within-end : Within end size (readEnd reader f)
+  within-end =
+      within-pick end size (eqb (f .count) 0) _ _
+      (λ c. within-pick end size (eqb (f .address) 0) _ _
+      (λ a. within-pick end size (eqb (f .sum) 0) _ _ (λ s. omega (arith, eqb-true (f .count) 0 c, eqb-true (f .address) 0 a)) (λ s. omega arith)) (λ a. omega arith))
+      (λ c. omega arith)
+
+  within-data : Within end size (readData reader size f)
+  within-data =
+      within-pick end size (eqb (f .sum) 0) _ _
+      (λ s. within-pick end size (eqb (f .kind) 0) _ _
+      (λ k. within-pick end size (leb (reader .next) (f .address)) _ _
+      (λ a. within-pick end size (leb end size) (value (record { next = end; ended = false })) (refused 5) (λ e. leb-true (f .address + f .count) size e) (λ e. omega arith)) (λ a. omega arith)) (λ k. omega arith))
+      (λ s. omega arith)
+
+  within-fields : Within end size (readFields reader size f)
+  within-fields = within-pick end size (eqb (f .kind) 1) _ _ (λ k. within-end) (λ k. within-data)
+
+  within-parsed : (a b c : Bool)
+      → Within end size (andThen (pick a (pick b (pick c (value f) (refused 1)) (refused 1)) (refused 1)) (readFields reader size))
+  within-parsed false b c = omega arith
+  within-parsed true false c = omega arith
+  within-parsed true true false = omega arith
+  within-parsed true true true = within-fields
+
+within-line : (reader : Reader) (size : ℕ) (l : List ℕ)
+    → Within (addressOf (bodyOf l) + countOf (bodyOf l)) size (readLine reader size l)
+unfolding readLine parseBody fieldsOf
+within-line reader size l =
+    let b = bodyOf l in
+    let end = addressOf b + countOf b in
+    within-pick end size (bufferLength size) _ _
+    (λ e. within-pick end size (reader .ended) _ _ (λ d. omega arith)
+    (λ d. within-parsed reader size (fieldsOf b) (eqb (getD b 0 0) 58) (eqb (length b) (countOf b * 2 + 11))
+    (ltb (sumOf b (countOf b + 5)) 256)))
+    (λ e. omega arith)
+
+pub read-within : (reader : Reader) (size : ℕ) (l : List ℕ) (next : Reader) → readLine reader size l ≡ value next
+    → addressOf (bodyOf l) + countOf (bodyOf l) ≤ size
+read-within reader size l next e = rw e at (within-line reader size l)
+
+pub refused-above : (reader : Reader) (size : ℕ) (l : List ℕ) (n : ℕ) → readLine reader size l ≡ refused n → 0 < n
+refused-above reader size l n e = rw e at (within-line reader size l)
+
+-- a buffer keeps its length
+length-stored : (body m : List ℕ) → addressOf body + countOf body ≤ length m → length (stored body m) ≡ length m
+unfolding stored
+length-stored body m h =
+    let a = addressOf body in
+    let n = countOf body in
+    omega (
+      arith,
+      length-append (take a m) (dataOf body n ++ drop n (drop a m)),
+      length-append (dataOf body n) (drop n (drop a m)),
+      length-dataOf body n,
+      length-drop n (drop a m),
+      length-drop a m,
+      length-take-le a m (omega arith),
+    )
+
+pub length-lineBuffer : (reader : Reader) (l m : List ℕ) → length (lineBuffer reader l m) ≡ length m
+unfolding lineBuffer
+length-lineBuffer reader l m = by-answer (readLine reader (length m) l) refl
+  where
+    by-answer : (o : Outcome Reader) → readLine reader (length m) l ≡ o
+        → length (onOutcome o (λ next. stored (bodyOf l) m) (λ n. m)) ≡ length m
+    by-answer (value next) e = length-stored (bodyOf l) m (read-within reader (length m) l next e)
+    by-answer (refused n) e = refl

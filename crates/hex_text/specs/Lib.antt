@@ -1,0 +1,5 @@
+pub mod Text
+pub mod TextLaws
+pub mod Stream
+pub mod StreamLaws
+pub mod StreamTheorems

@@ -1,0 +1,277 @@
+-- A file fed in pieces, whatever the cuts, is read as its lines are in turn.
+-- Assumes nothing.
+use Prim.Native.Nat.{ℕ, zero, suc, _+_, _-_, _*_, _≤_, _<_}
+use mathlib.Core.Path.{_≡_, refl, sym, ap, _∙_}
+use mathlib.Core.Bool.{Bool, true, false}
+use mathlib.Core.List.{List, [], _∷_, _++_, append-assoc}
+use native.Mathlib.Numerals.{add-one}
+use native.Mathlib.Omega.{arith}
+use mathlib.Core.Logic.{_≢_, _⊎_, inl, inr}
+use lib.Dec.{eqb, ltb, leb}
+use lib.ListN.{length, getD, take, drop, set, replicate, length-set, length-replicate, length-append}
+use lib.Seq.{length-take-le, take-suc-set}
+use borrow.Author.Tests.{eqb-true, ltb-true, eq-eqb, ne-eqb, le-leb, lt-leb}
+use Rattle.base.specs.Choice.{pick}
+use Rattle.base.specs.Formula.{le?, same?}
+use Rattle.base.specs.Outcome.{Outcome, andThen, onOutcome}
+use Rattle.base.specs.Outcome.Outcome.{value, refused}
+use Rattle.hex_line.specs.Record.{digitOf, pairAt, sumOf, countOf, fieldsOf, parseBody, bodyLength, bodyOf}
+use Rattle.hex_line.specs.Line.{bufferLength, begun, readFields, readLine, stored, lineBuffer}
+use Rattle.hex_line.specs.LineLaws.{refused-above, length-lineBuffer}
+use Rattle.hex_line.specs.declared.Reader.{Reader}
+use Rattle.hex_text.specs.declared.Stream.{Stream}
+use Rattle.hex_text.specs.Text.{lines, firstLength, linesAnswer, linesBuffer, textAnswer}
+use Rattle.hex_text.specs.TextLaws.{Plain, plain-append, first-line-of, first-line, no-line, last-line, first-behind, first-positive, first-within}
+use Rattle.hex_text.specs.Stream.{streamOf, started, longNumber, heldLine, appended, pushStream, pushBuffer, feedStream, feedBuffer, finishAnswer, finishBuffer}
+use Rattle.hex_text.specs.StreamLaws.{feed-refused, feed-refused-buffer, long-above}
+
+-- the buffer keeps its length
+length-pushBuffer : (s : Stream) (c : ℕ) (m : List ℕ) → length (pushBuffer s c m) ≡ length m
+unfolding pushBuffer
+length-pushBuffer s c m = by-test (eqb (s .number) 0) (leb 523 (s .count)) (eqb c 10)
+  where
+    by-test : (a b d : Bool)
+        → length (pick a (pick b m (pick d (lineBuffer (s .reader) (heldLine (appended s c)) m) m)) m) ≡ length m
+    by-test false b d = refl
+    by-test true true d = refl
+    by-test true false true = length-lineBuffer (s .reader) (heldLine (appended s c)) m
+    by-test true false false = refl
+
+-- feeding a ++ b is feeding a, then b
+pub feed-append : (n : ℕ) (s : Stream) (a b : List ℕ) → feedStream n s (a ++ b) ≡ feedStream n (feedStream n s a) b
+unfolding feedStream
+feed-append n s [] b = refl
+feed-append n s (c ∷ a) b = feed-append n (pushStream n s c) a b
+
+pub feed-append-buffer : (s : Stream) (a b m : List ℕ)
+    → feedBuffer s (a ++ b) m ≡ feedBuffer (feedStream (length m) s a) b (feedBuffer s a m)
+unfolding feedStream feedBuffer
+feed-append-buffer s [] b m = refl
+feed-append-buffer s (c ∷ a) b m =
+    feed-append-buffer (pushStream (length m) s c) a b (pushBuffer s c m) ∙ rw (length-pushBuffer s c m)
+
+-- a pair is at most 256
+pair-small : (l : List ℕ) (k : ℕ) → pairAt l k < 257
+unfolding pairAt
+pair-small l k = by-test (ltb (digitOf (getD l k 0)) 16) refl (ltb (digitOf (getD l (k + 1) 0)) 16) refl
+  where
+    by-test : (a : Bool) → ltb (digitOf (getD l k 0)) 16 ≡ a → (b : Bool) → ltb (digitOf (getD l (k + 1) 0)) 16 ≡ b
+        → pick a (pick b (digitOf (getD l k 0) * 16 + digitOf (getD l (k + 1) 0)) 256) 256 < 257
+    by-test false p b q = omega arith
+    by-test true p false q = omega arith
+    by-test true p true q =
+        omega (arith, ltb-true (digitOf (getD l k 0)) 16 p, ltb-true (digitOf (getD l (k + 1) 0)) 16 q)
+
+-- a sum over a first pair that is none
+sum-none : (l : List ℕ) → pairAt l 1 ≡ 256 → (n : ℕ) → sumOf l (suc n) ≡ 256
+unfolding sumOf
+sum-none l e zero = rw e
+sum-none l e (suc n) = rw (sum-none l e n)
+
+-- no well-formed line has more than 521 characters before its end
+parse-long : (l : List ℕ) → 521 < length l → parseBody l ≡ refused 1
+unfolding parseBody countOf
+parse-long l h = by-test (eqb (getD l 0 0) 58) (eqb (length l) (pairAt l 1 * 2 + 11)) refl
+  where
+    by-test : (a b : Bool) → eqb (length l) (pairAt l 1 * 2 + 11) ≡ b
+        → pick a (pick b (pick (ltb (sumOf l (pairAt l 1 + 5)) 256) (value (fieldsOf l)) (refused 1)) (refused 1)) (refused 1) ≡ refused 1
+    by-test false b p = refl
+    by-test true false p = refl
+    by-test true true p =
+        let e : pairAt l 1 ≡ 256 = omega (arith, eqb-true (length l) (pairAt l 1 * 2 + 11) p, pair-small l 1) in
+        let s : sumOf l 261 ≡ 256 = sum-none l e 260 in
+        rw (e, s)
+
+-- the end of a line has at most two characters
+body-bounds : (l : List ℕ) → (length l ≤ bodyLength l + 2) × (bodyLength l ≤ length l)
+unfolding bodyLength
+body-bounds l = by-test (eqb (getD l (length l - 1) 0) 10) (eqb (getD l (length l - 2) 0) 13)
+  where
+    by-test : (a b : Bool) → (length l ≤ pick a (pick b (length l - 2) (length l - 1)) (length l) + 2)
+        × (pick a (pick b (length l - 2) (length l - 1)) (length l) ≤ length l)
+    by-test true true = (omega arith, omega arith)
+    by-test true false = (omega arith, omega arith)
+    by-test false b = (omega arith, omega arith)
+
+-- a line longer than any valid one
+long-refused : (reader : Reader) (n : ℕ) (l : List ℕ) → 523 < length l → readLine reader n l ≡ refused (longNumber reader n)
+unfolding readLine
+long-refused reader n l h =
+    let b = body-bounds l in
+    let w : 521 < length (take (bodyLength l) l) = rw (length-take-le (bodyLength l) l (b .1)) (omega arith) in
+    rw (parse-long (bodyOf l) w) (by-test (bufferLength n) (reader .ended))
+  where
+    by-test : (a d : Bool) → _≡_ {A = Outcome Reader} (pick a (pick d (refused 6) (refused 1)) (refused 7)) (refused (pick a (pick d 6 1) 7))
+    by-test true true = refl
+    by-test true false = refl
+    by-test false d = refl
+
+-- a refusal of a line stands, since 7 is tested first
+refused-stands : (reader : Reader) (n : ℕ) (l : List ℕ) (k : ℕ) → readLine reader n l ≡ refused k
+    → _≡_ {A = Outcome (Unit {0})} (pick (bufferLength n) (refused k) (refused 7)) (refused k)
+unfolding readLine
+refused-stands reader n l k e = by-test (bufferLength n) e
+  where
+    by-test : (b : Bool) → pick b (pick (reader .ended) (refused 6) (andThen (parseBody (bodyOf l)) (readFields reader n))) (refused 7) ≡ refused k
+        → _≡_ {A = Outcome (Unit {0})} (pick b (refused k) (refused 7)) (refused k)
+    by-test true q = refl
+    by-test false q = ap (λ (o : Outcome Reader). onOutcome o (λ next. refused 7) (λ j. refused j)) q
+
+-- the buffer behind a last line, with or without the test of its length
+last-buffer : (reader : Reader) (l m : List ℕ)
+    → pick (bufferLength (length m)) (lineBuffer reader l m) m
+    ≡ onOutcome (readLine reader (length m) l) (λ next. lineBuffer reader l m) (λ k. m)
+unfolding lineBuffer readLine
+last-buffer reader l m =
+    by-test (bufferLength (length m)) (pick (reader .ended) (refused 6) (andThen (parseBody (bodyOf l)) (readFields reader (length m))))
+  where
+    by-test : (b : Bool) (o : Outcome Reader)
+        → pick b (onOutcome (pick b o (refused 7)) (λ next. stored (bodyOf l) m) (λ k. m)) m
+        ≡ onOutcome (pick b o (refused 7)) (λ next. onOutcome (pick b o (refused 7)) (λ next. stored (bodyOf l) m) (λ k. m)) (λ k. m)
+    by-test true (value next) = refl
+    by-test true (refused k) = refl
+    by-test false o = refl
+
+refused-buffer : (reader : Reader) (l m : List ℕ) (k : ℕ) → readLine reader (length m) l ≡ refused k → lineBuffer reader l m ≡ m
+unfolding lineBuffer
+refused-buffer reader l m k e = rw e
+
+-- a refused file
+ends-refused : (n : ℕ) (s : Stream) (t m : List ℕ) → 0 < s .number
+    → (finishAnswer n (feedStream n s t) ≡ refused (s .number)) × (finishBuffer (feedStream n s t) (feedBuffer s t m) ≡ m)
+unfolding finishAnswer finishBuffer
+ends-refused n s t m h =
+    let z : s .number ≡ 0 → ⊥ = omega arith in
+    rw (feed-refused n s t h, feed-refused-buffer s t m h, ne-eqb (s .number) 0 z) (refl, refl)
+
+-- one more character is held
+held-more : (held : List ℕ) (count c : ℕ) → count < length held → take (count + 1) (set held count c) ≡ take count held ++ (c ∷ [])
+held-more held count c h = rw add-one (take-suc-set held count c h)
+
+-- a stream with an unfinished line reads what is left of the text as the lines of both
+abbrev Same : ℕ → List ℕ → Reader → List ℕ → ℕ → List ℕ → Type 0
+Same n t reader held count m =
+    (finishAnswer n (feedStream n (streamOf reader held count 0) t)
+    ≡ pick (bufferLength n) (linesAnswer (lines (take count held ++ t)) reader n) (refused 7))
+    × (finishBuffer (feedStream n (streamOf reader held count 0) t) (feedBuffer (streamOf reader held count 0) t m)
+    ≡ linesBuffer (lines (take count held ++ t)) reader m)
+
+same-end : (n : ℕ) (reader : Reader) (held : List ℕ) (count : ℕ) (m : List ℕ) → length m ≡ n → length held ≡ 523 → count ≤ 523
+    → Plain (take count held) → Same n [] reader held count m
+unfolding feedStream feedBuffer finishAnswer finishBuffer linesAnswer linesBuffer
+same-end n reader held zero m e w h p = rw no-line (refl, by-test (bufferLength (length m)))
+  where
+    by-test : (b : Bool) → pick b m m ≡ m
+    by-test true = refl
+    by-test false = refl
+same-end n reader [] (suc count) m e w h p = let z : ⊥ = omega arith in absurd z
+same-end n reader (x ∷ held) (suc count) m e w h p =
+    let z : suc count ≡ 0 → ⊥ = omega arith in
+    rw (last-line x (take count held) p, le-leb (suc count) 523 h, ne-eqb (suc count) 0 z)
+    (refl, last-buffer reader (x ∷ take count held) m)
+
+module _ (n : ℕ) (t : List ℕ) (c : ℕ) (reader : Reader) (held : List ℕ) (count : ℕ) (m : List ℕ) (e : length m ≡ n)
+    (w : length held ≡ 523) (p : Plain (take count held)) where
+  -- the line is as long as a valid one can be, and goes on
+  same-long : 523 ≤ count → count ≤ 523 → Same n (c ∷ t) reader held count m
+  unfolding feedStream feedBuffer pushStream pushBuffer linesAnswer linesBuffer
+  same-long a h =
+      let x = take count held ++ (c ∷ t) in
+      let l = take (firstLength x) x in
+      let f : firstLength x ≡ length (take count held) + firstLength (c ∷ t) = first-behind (take count held) (c ∷ t) p in
+      let k : length (take count held) ≡ count = length-take-le count held (omega arith) in
+      let long : 523 < length l = rw (length-take-le (firstLength x) x (first-within x)) (omega (arith, first-positive c t)) in
+      let g : readLine reader n l ≡ refused (longNumber reader n) = long-refused reader n l long in
+      let r = ends-refused n (streamOf reader held count (longNumber reader n)) t m (long-above reader n) in
+      let o : lines x ≡ l ∷ lines (drop (firstLength x) x) =
+      first-line-of x (omega (arith, length-append (take count held) (c ∷ t))) in
+      rw (e, le-leb 523 count a, o, e, g) (r .0 ∙ sym (refused-stands reader n l (longNumber reader n) g), r .1)
+
+  -- any other character than LF
+  same-character : count < 523 → (c ≡ 10 → ⊥) → Same n t reader (set held count c) (count + 1) m → Same n (c ∷ t) reader held count m
+  unfolding feedStream feedBuffer pushStream pushBuffer
+  same-character a d ih =
+      let o : take (count + 1) (set held count c) ++ t ≡ take count held ++ (c ∷ t) =
+      rw (held-more held count c (omega arith)) (append-assoc (take count held) (c ∷ []) t) in
+      rw (e, lt-leb 523 count a, ne-eqb c 10 d) (rw o at ih)
+
+  -- LF
+  same-line : count < 523 → c ≡ 10 → ((next : Reader) (m : List ℕ) → length m ≡ n → Same n t next (set held count c) 0 m)
+      → Same n (c ∷ t) reader held count m
+  unfolding feedStream feedBuffer pushStream pushBuffer linesAnswer linesBuffer
+  same-line a d ih = by-answer (readLine reader n (take (count + 1) (set held count c))) refl
+    where
+      l : List ℕ
+      l = take (count + 1) (set held count c)
+
+      o : lines (take count held ++ (c ∷ t)) ≡ take (count + 1) (set held count c) ∷ lines t
+      o = rw (held-more held count c (omega arith), d) (first-line (take count held) t p)
+
+      by-answer : (x : Outcome Reader) → readLine reader n (take (count + 1) (set held count c)) ≡ x → Same n (c ∷ t) reader held count m
+      by-answer (value next) g =
+          rw (e, lt-leb 523 count a, eq-eqb c 10 d, o, e, g)
+          (ih next (lineBuffer reader l m) (length-lineBuffer reader l m ∙ e))
+      by-answer (refused k) g =
+          let r = ends-refused n (streamOf reader (set held count c) (count + 1) k) t (lineBuffer reader l m) (refused-above reader n l k g) in
+          rw (e, lt-leb 523 count a, eq-eqb c 10 d, o, e, g)
+          (r .0 ∙ sym (refused-stands reader n l k g), r .1 ∙ refused-buffer reader l m k (rw e g))
+
+abbrev Follows : ℕ → List ℕ → Type 0
+Follows n t =
+    (reader : Reader) (held : List ℕ) (count : ℕ) (m : List ℕ) → length m ≡ n → length held ≡ 523 → count ≤ 523
+    → Plain (take count held) → Same n t reader held count m
+
+same : (n : ℕ) (t : List ℕ) (reader : Reader) (held : List ℕ) (count : ℕ) (m : List ℕ) → length m ≡ n → length held ≡ 523
+    → count ≤ 523 → Plain (take count held) → Same n t reader held count m
+same n [] reader held count m e w h p = same-end n reader held count m e w h p
+same n (c ∷ t) reader held count m e w h p = by-room (le? 523 count) (same? c 10) (same n t)
+  where
+    more : count < 523 → length (set held count c) ≡ 523
+    more a = length-set held count c ∙ w
+
+    by-room : (523 ≤ count) ⊎ (count < 523) → (c ≡ 10) ⊎ (c ≢ 10) → Follows n t → Same n (c ∷ t) reader held count m
+    by-room (inl a) d ih = same-long n t c reader held count m e w p a h
+    by-room (inr a) (inl d) ih =
+        same-line n t c reader held count m e w p a d (λ next m₁ e₁. ih next (set held count c) 0 m₁ e₁ (more a) (omega arith) tt)
+    by-room (inr a) (inr d) ih =
+        same-character n t c reader held count m e w p a d
+        (ih reader (set held count c) (count + 1) m e (more a) (omega arith)
+        (rw (held-more held count c (omega arith)) (plain-append (take count held) (c ∷ []) p (d, tt))))
+
+-- the pieces of a file in turn, and the whole file
+unfoldable pub piecesStream : ℕ → Stream → List (List ℕ) → Stream
+piecesStream n s [] = s
+piecesStream n s (p ∷ ps) = piecesStream n (feedStream n s p) ps
+
+unfoldable pub piecesBuffer : Stream → List (List ℕ) → List ℕ → List ℕ
+piecesBuffer s [] m = m
+piecesBuffer s (p ∷ ps) m = piecesBuffer (feedStream (length m) s p) ps (feedBuffer s p m)
+
+unfoldable pub wholeOf : List (List ℕ) → List ℕ
+wholeOf [] = []
+wholeOf (p ∷ ps) = p ++ wholeOf ps
+
+length-feedBuffer : (s : Stream) (t m : List ℕ) → length (feedBuffer s t m) ≡ length m
+unfolding feedBuffer
+length-feedBuffer s [] m = refl
+length-feedBuffer s (c ∷ t) m = length-feedBuffer (pushStream (length m) s c) t (pushBuffer s c m) ∙ length-pushBuffer s c m
+
+-- wherever a file is cut, the pieces in turn make of the stream and the buffer what the whole file makes of them
+pieces-whole : (s : Stream) (ps : List (List ℕ)) (m : List ℕ)
+    → (piecesStream (length m) s ps ≡ feedStream (length m) s (wholeOf ps)) × (piecesBuffer s ps m ≡ feedBuffer s (wholeOf ps) m)
+unfolding piecesStream piecesBuffer wholeOf feedStream feedBuffer
+pieces-whole s [] m = (refl, refl)
+pieces-whole s (p ∷ ps) m =
+    let ih = pieces-whole (feedStream (length m) s p) ps (feedBuffer s p m) in (
+      rw (length-feedBuffer s p m) at (ih .0) ∙ sym (feed-append (length m) s p (wholeOf ps)),
+      ih .1 ∙ sym (feed-append-buffer s p (wholeOf ps) m),
+    )
+
+-- start, feed and finish over any pieces answer and write as the lines of the whole file read in turn
+pub stream-reads-text : (ps : List (List ℕ)) (m : List ℕ)
+    → (finishAnswer (length m) (piecesStream (length m) started ps) ≡ textAnswer (wholeOf ps) (length m))
+    × (finishBuffer (piecesStream (length m) started ps) (piecesBuffer started ps m) ≡ linesBuffer (lines (wholeOf ps)) begun m)
+unfolding textAnswer
+stream-reads-text ps m =
+    let w = pieces-whole started ps m in
+    rw (w .0, w .1) (same (length m) (wholeOf ps) begun (replicate 523 0) 0 m refl (length-replicate {A = ℕ} 523 0) (omega arith) tt)

@@ -1,0 +1,65 @@
+-- The text of an image: 256 upper-case records of 16 bytes and the end line, 11,276 bytes with LF.
+-- Assumes nothing.
+use Prim.Native.Nat.{ℕ, zero, suc, _+_, _-_, _*_, _/_, _%_}
+use mathlib.Core.List.{List, [], _∷_, _++_}
+use lib.ListN.{length, getD, drop}
+use lib.Dec.{eqb, ltb}
+use Rattle.base.specs.Choice.{pick}
+use Rattle.base.specs.Outcome.{Outcome, onOutcome}
+use Rattle.base.specs.Outcome.Outcome.{value, refused}
+use Rattle.hex_line.specs.Line.{imageLength}
+use Rattle.hex_write.specs.declared.Written.{Written}
+
+-- an upper-case digit
+abbrev pub hexDigit : ℕ → ℕ
+hexDigit x = pick (ltb x 10) (x + 48) (x + 55)
+
+-- byte j of record k before its sum: length 16, address high and low, type 0, the data
+unfoldable pub headByte : List ℕ → ℕ → ℕ → ℕ
+headByte m k j =
+    pick (eqb j 0) 16
+    (pick (eqb j 1) (k * 16 / 256) (pick (eqb j 2) (k * 16 % 256) (pick (eqb j 3) 0 (getD m (k * 16 + (j - 4)) 0))))
+
+-- the sum modulo 256 of the first n of them
+unfoldable pub headSum : List ℕ → ℕ → ℕ → ℕ
+headSum m k zero = 0
+headSum m k (suc n) = (headSum m k n + headByte m k n) % 256
+
+-- with the byte that makes the sum 0 behind them
+unfoldable pub recordByte : List ℕ → ℕ → ℕ → ℕ
+recordByte m k j = pick (ltb j 20) (headByte m k j) ((256 - headSum m k 20) % 256)
+
+-- the first n bytes of record k in digits
+unfoldable pub digits : List ℕ → ℕ → ℕ → List ℕ
+digits m k zero = []
+digits m k (suc n) = digits m k n ++ (hexDigit (recordByte m k n / 16) ∷ hexDigit (recordByte m k n % 16) ∷ [])
+
+unfoldable pub recordLine : List ℕ → ℕ → List ℕ
+recordLine m k = (58 ∷ digits m k 21) ++ (10 ∷ [])
+
+-- the first k records
+unfoldable pub records : List ℕ → ℕ → List ℕ
+records m zero = []
+records m (suc k) = records m k ++ recordLine m k
+
+-- :00000001FF and LF
+abbrev pub endLine : List ℕ
+endLine = 58 ∷ 48 ∷ 48 ∷ 48 ∷ 48 ∷ 48 ∷ 48 ∷ 48 ∷ 49 ∷ 70 ∷ 70 ∷ 10 ∷ []
+
+unfoldable pub imageText : List ℕ → List ℕ
+imageText m = records m 256 ++ endLine
+
+abbrev pub textLength : ℕ
+textLength = 11276
+
+abbrev pub writtenOutcome : Written → Outcome ℕ
+writtenOutcome (Written.Bytes n) = value n
+writtenOutcome Written.WrongLength = refused 7
+
+-- 7: an image of another length, or too short a buffer
+unfoldable pub writeAnswer : ℕ → ℕ → Outcome ℕ
+writeAnswer size room = pick (eqb size imageLength) (pick (ltb room textLength) (refused 7) (value textLength)) (refused 7)
+
+-- the buffer behind it: the text at its front, unchanged where it is refused
+unfoldable pub writeBuffer : List ℕ → List ℕ → List ℕ
+writeBuffer m out = onOutcome (writeAnswer (length m) (length out)) (λ n. imageText m ++ drop n out) (λ number. out)

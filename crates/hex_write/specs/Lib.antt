@@ -1,0 +1,3 @@
+pub mod ImageText
+pub mod ImageTextLaws
+pub mod ReadBack

@@ -1,0 +1,75 @@
+-- What the parts of a step in place say of the whole.
+-- Assumes nothing.
+use mathlib.Core.Path.{_≡_, _∙_, refl, sym, ap}
+use mathlib.Core.List.{List, _∷_, map}
+use mathlib.Core.Bool.{Bool, true, false}
+use Prim.Native.Nat.{ℕ, zero, suc, _+_, _-_, _*_, _/_, _≤_, _<_}
+use native.Mathlib.Omega.{arith}
+use borrow.Author.Tests.{eq-eqb, ne-eqb}
+use lib.Dec.{eqb}
+use lib.ListN.{length, getD, take, drop, length-take, length-drop, drop-of-length-le}
+use lib.Seq.{drop-cons}
+use Rattle.base.specs.Choice.{pick, from}
+use Rattle.semantics.specs.declared.Next.{Next}
+use Rattle.semantics.specs.declared.State.{State}
+use Rattle.semantics.specs.declared.Stepped.{Stepped}
+use Rattle.semantics.specs.Step.{refuse, finishOf, stepWith, stepOf}
+use Rattle.semantics.specs.Run.{recordAt, runFrom, ran}
+use Rattle.machine.specs.InPlace.{stateWith, finished, ended, rebuilt}
+use Rattle.machine.specs.declared.Core.{Core}
+
+-- the step that ends in after where b holds, and else is refused
+ends-by : (b : Bool) (saved regs : List ℕ) (s after : Core) (stop : ℕ)
+    → rebuilt saved regs (pick b (ended after true 0) (ended s false stop))
+    ≡ pick b (record { state = stateWith regs after; stop = 0 }) (refuse (stateWith saved s) stop)
+ends-by true saved regs s after stop = refl
+ends-by false saved regs s after stop = refl
+
+pub finishes : (saved regs : List ℕ) (s : Core) (next : Next) (cost : ℕ)
+    → rebuilt saved regs (finished s next cost) ≡ finishOf (stateWith saved s) (record { regs = regs; next = next }) cost
+unfolding finished finishOf
+finishes saved regs s next cost = ends-by (eqb (next .stop) 0) saved regs s _ (next .stop)
+
+-- a list from i on, element by element
+elements : (n i : ℕ) (l : List ℕ) → length l ≡ i + n → map (λ (k : ℕ). getD l k 0) (from n i) ≡ drop i l
+elements zero i l h =
+    let e : length l ≤ i = omega arith in
+    sym (drop-of-length-le l e)
+elements (suc n) i l h =
+    let e : i < length l = omega arith in
+    rw (drop-cons l i 0 e) (ap (λ (r : List ℕ). getD l i 0 ∷ r) (elements n (suc i) l (omega arith)))
+
+pub eight-bytes : (l : List ℕ) → length l ≡ 8 → map (λ (k : ℕ). getD l k 0) (from 8 0) ≡ l
+eight-bytes l h = elements 8 0 l h
+
+-- a step on the right lengths
+pub step-right : (image : List ℕ) (s : State) (rec : List ℕ) → length image ≡ 4096 → length rec ≡ 8 → stepOf image s rec ≡ stepWith image s rec
+unfolding stepOf
+step-right image s rec h g = rw (h, g)
+
+module _ (n i : ℕ) (image schedule : List ℕ) (s : State) (r : Stepped) (size : length image ≡ 4096) (count : n ≡ length schedule / 8) (h : i < n)
+    (e : r ≡ stepWith image s (take (i * 8 + 8 - i * 8) (drop (i * 8) schedule))) where
+  this-step : r ≡ stepOf image s (recordAt schedule i)
+  this-step =
+      let q : i * 8 + 8 - i * 8 ≡ 8 = omega arith in
+      let w : length (recordAt schedule i) ≡ 8 = simp (length-take, length-drop) (omega arith) in
+      rw q at e ∙ sym (step-right image s (recordAt schedule i) size w)
+
+  next-record : n - i ≡ suc (n - (i + 1))
+  next-record = omega arith
+
+  -- a run goes on after a record that was not refused
+  pub goes-on : r .stop ≡ 0 → runFrom (n - i) image schedule i s ≡ runFrom (n - (i + 1)) image schedule (i + 1) (r .state)
+  unfolding runFrom
+  goes-on z = rw (next-record, this-step) (rw (runFrom, eq-eqb (stepOf image s (recordAt schedule i) .stop) 0 (rw this-step at z)))
+
+  -- and ends at one that was
+  pub stops : (r .stop ≡ 0 → ⊥) → runFrom (n - i) image schedule i s ≡ ran (r .state) i (r .stop)
+  unfolding runFrom
+  stops z = rw (next-record, this-step) (rw (runFrom, ne-eqb (stepOf image s (recordAt schedule i) .stop) 0 (rw this-step at z)))
+
+pub ends : (n i : ℕ) (image schedule : List ℕ) (s : State) → i ≡ n → runFrom (n - i) image schedule i s ≡ ran s n 0
+unfolding runFrom
+ends n i image schedule s e =
+    let q : n - i ≡ 0 = omega arith in
+    rw (q, e)

@@ -1,0 +1,14 @@
+use Rattle.semantics.specs.Reset.{resetState}
+use borrow.Author.Needs.{needs}
+use Rattle.machine.proofs.reset.Statement.{statement}
+use Rattle.machine.proofs.reset.Tie as tie
+
+reset-registers-requires : tie.Need-reset-registers-requires
+reset-registers-requires c κs = search needs
+
+returns : tie.Need-returns
+unfolding resetState
+returns c = simp (c .reset-registers .ensures)
+
+pub reset-spec : {M : Type 1} → statement M
+reset-spec = tie.close (tie.spec reset-registers-requires returns)

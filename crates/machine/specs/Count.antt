@@ -1,0 +1,182 @@
+-- What a run's steps and cycles count: the completed steps, and their costs modulo 2^32.
+-- Assumes nothing.
+use Prim.Native.Nat.{ℕ, zero, suc, _+_, _/_, _%_, _<_}
+use mathlib.Core.Path.{_≡_, _∙_, refl, sym, ap}
+use mathlib.Core.Bool.{Bool, true, false, _&&_}
+use mathlib.Core.List.{List}
+use native.Mathlib.Omega.{arith}
+use lib.ListN.{length, getD}
+use lib.Dec.{eqb}
+use borrow.Author.Tests.{eqb-true, eqb-false}
+use Rattle.base.specs.declared.RomAddr.{RomAddr}
+use Rattle.base.specs.Choice.{pick}
+use Rattle.base.specs.Outcome.{Outcome}
+use Rattle.base.specs.Outcome.Outcome.{value, refused}
+use Rattle.isa.specs.declared.Instruction.{Instruction}
+use Rattle.isa.specs.Map.{cyclesOf}
+use Rattle.decode.specs.Decode.{decodeAt}
+use Rattle.semantics.specs.declared.Mode.{Mode}
+use Rattle.semantics.specs.declared.Mode.the-variants.{Running, Idle, Stopped}
+use Rattle.semantics.specs.declared.State.{State}
+use Rattle.semantics.specs.declared.Stepped.{Stepped}
+use Rattle.semantics.specs.declared.Ran.{Ran}
+use Rattle.semantics.specs.Execute.{Executed}
+use Rattle.semantics.specs.Step.{romLength, recordLength, entryDue, refuse, finishOf, entryCost, afterDecode, instructionStep, modeStep, stepAfterRequests, requested, stepWith, stepOf}
+use Rattle.semantics.specs.Run.{ran, recordAt, runFrom, runOf}
+
+-- the cycles of what was decoded, by its first byte; what does not decode costs nothing
+unfoldable pub decodedCost : Outcome (Instruction × ℕ) → ℕ → ℕ
+decodedCost (value d) first = cyclesOf first
+decodedCost (refused n) first = 0
+
+-- the cycles of a step for which no entry is due
+unfoldable pub modeCost : Mode → List ℕ → RomAddr → ℕ
+modeCost Running image pc = decodedCost (decodeAt image (pc .0)) (getD image (pc .0) 0)
+modeCost Idle image pc = 0
+modeCost Stopped image pc = 0
+
+-- the cycles of a step, from the state before it
+unfoldable pub costOf : List ℕ → State → List ℕ → ℕ
+costOf image s rec = pick (entryDue (requested s rec) (s .mode)) entryCost (modeCost (s .mode) image (s .pc))
+
+-- how many steps the next k records complete, from record i on: those before the first that is refused
+unfoldable pub completedOf : ℕ → List ℕ → List ℕ → ℕ → State → ℕ
+completedOf zero image schedule i s = 0
+completedOf (suc k) image schedule i s =
+    let r = stepOf image s (recordAt schedule i) in
+    elim (eqb (r .stop) 0) [ true ↦ suc (completedOf k image schedule (i + 1) (r .state)) | false ↦ 0 ]
+
+-- what those steps cost
+unfoldable pub costsOf : ℕ → List ℕ → List ℕ → ℕ → State → ℕ
+costsOf zero image schedule i s = 0
+costsOf (suc k) image schedule i s =
+    let r = stepOf image s (recordAt schedule i) in
+    elim (eqb (r .stop) 0) [ true ↦ costOf image s (recordAt schedule i) + costsOf k image schedule (i + 1) (r .state) | false ↦ 0 ]
+
+-- how many steps a run completes, and what they cost: none where a length is wrong
+unfoldable pub completedSteps : List ℕ → State → List ℕ → ℕ
+completedSteps image s schedule =
+    pick (eqb (length image) romLength && eqb (length schedule % recordLength) 0)
+    (completedOf (length schedule / recordLength) image schedule 0 s)
+    0
+
+unfoldable pub totalCost : List ℕ → State → List ℕ → ℕ
+totalCost image s schedule =
+    pick (eqb (length image) romLength && eqb (length schedule % recordLength) 0)
+    (costsOf (length schedule / recordLength) image schedule 0 s)
+    0
+
+-- a step that is completed adds its cost to the cycle total; a step that is refused leaves the state before it
+pub record Accounts (s : State) (cost : ℕ) (r : Stepped) : Type 0 where
+  pub completed : r .stop ≡ 0 → r .state .cycles ≡ (s .cycles + cost) % 4294967296
+  pub refused : (r .stop ≡ 0 → ⊥) → r .state ≡ s
+
+chosen : {A : Type 0} (P : A → Type 0) (b : Bool) (x y : A) → (b ≡ true → P x) → (b ≡ false → P y) → P (pick b x y)
+chosen P true x y p q = p refl
+chosen P false x y p q = q refl
+
+module _ (s : State) (small : s .cycles < 4294967296) where
+  same-total : s .cycles ≡ (s .cycles + 0) % 4294967296
+  same-total = omega arith
+
+  refuse-accounts : (n cost : ℕ) → (n ≡ 0 → ⊥) → Accounts s cost (refuse s n)
+  refuse-accounts n cost h = record { completed = λ z. absurd (h z); refused = λ _. refl }
+
+  finish-accounts : (e : Executed) (cost : ℕ) → Accounts s cost (finishOf s e cost)
+  unfolding finishOf
+  finish-accounts e cost =
+      chosen (Accounts s cost) (eqb (e .next .stop) 0) _ _
+      (λ _. record { completed = λ _. refl; refused = λ h. absurd (h refl) })
+      (λ h. refuse-accounts (e .next .stop) cost (eqb-false (e .next .stop) 0 h))
+
+  decode-accounts : (o : Outcome (Instruction × ℕ)) (image regs rec : List ℕ)
+      → Accounts s (decodedCost o (getD image (s .pc .0) 0)) (afterDecode o image s regs rec)
+  unfolding decodedCost afterDecode
+  decode-accounts (value d) image regs rec = finish-accounts _ _
+  decode-accounts (refused n) image regs rec = record { completed = λ _. same-total; refused = λ _. refl }
+
+  mode-accounts : (m : Mode) (image regs rec : List ℕ) → Accounts s (modeCost m image (s .pc)) (modeStep m image s regs rec)
+  unfolding modeCost modeStep instructionStep
+  mode-accounts Running image regs rec = decode-accounts (decodeAt image (s .pc .0)) image regs rec
+  mode-accounts Idle image regs rec = record { completed = λ _. same-total; refused = λ h. absurd (h refl) }
+  mode-accounts Stopped image regs rec = record { completed = λ _. same-total; refused = λ h. absurd (h refl) }
+
+  due-accounts : (b : Bool) (image regs rec : List ℕ)
+      → Accounts s (pick b entryCost (modeCost (s .mode) image (s .pc))) (stepAfterRequests b image s regs rec)
+  unfolding stepAfterRequests
+  due-accounts true image regs rec = finish-accounts _ entryCost
+  due-accounts false image regs rec = mode-accounts (s .mode) image regs rec
+
+  pub step-accounts : (image rec : List ℕ) → Accounts s (costOf image s rec) (stepOf image s rec)
+  unfolding stepOf stepWith costOf
+  step-accounts image rec =
+      chosen (Accounts s _) (eqb (length image) romLength && eqb (length rec) recordLength) _ _
+      (λ _. due-accounts (entryDue (requested s rec) (s .mode)) image (requested s rec) rec)
+      (λ _. refuse-accounts 7 _ (λ h. absurd (omega (arith, h))))
+
+-- the steps of a run are the completed ones
+pub run-steps : (k : ℕ) (image schedule : List ℕ) (i : ℕ) (s : State)
+    → runFrom k image schedule i s .steps ≡ i + completedOf k image schedule i s
+unfolding runFrom completedOf
+run-steps zero image schedule i s = omega arith
+run-steps (suc k) image schedule i s = on (eqb (r .stop) 0) (run-steps k image schedule (i + 1) (r .state))
+  where
+    r : Stepped
+    r = stepOf image s (recordAt schedule i)
+
+    on : (b : Bool) → runFrom k image schedule (i + 1) (r .state) .steps ≡ i + 1 + completedOf k image schedule (i + 1) (r .state)
+        → (elim b as (λ _. Ran) [ true ↦ runFrom k image schedule (i + 1) (r .state) | false ↦ ran (r .state) i (r .stop) ]) .steps
+        ≡ i + (elim b as (λ _. ℕ) [ true ↦ suc (completedOf k image schedule (i + 1) (r .state)) | false ↦ 0 ])
+    on true rest = omega arith
+    on false rest = omega arith
+
+sums : (a b c d : ℕ) → d ≡ (a + b) % 4294967296 → (d + c) % 4294967296 ≡ (a + (b + c)) % 4294967296
+sums a b c d e = omega arith
+
+-- the cycle total of a run is the start's plus the completed steps' costs
+pub run-cycles : (k : ℕ) (image schedule : List ℕ) (i : ℕ) (s : State) → s .cycles < 4294967296
+    → runFrom k image schedule i s .state .cycles ≡ (s .cycles + costsOf k image schedule i s) % 4294967296
+unfolding runFrom costsOf
+run-cycles zero image schedule i s small = same-total s small
+run-cycles (suc k) image schedule i s small = on (eqb (r .stop) 0) refl (run-cycles k image schedule (i + 1) (r .state))
+  where
+    r : Stepped
+    r = stepOf image s (recordAt schedule i)
+
+    cost : ℕ
+    cost = costOf image s (recordAt schedule i)
+
+    on : (b : Bool) → eqb (r .stop) 0 ≡ b
+        → (r .state .cycles < 4294967296
+        → runFrom k image schedule (i + 1) (r .state) .state .cycles ≡ (r .state .cycles + costsOf k image schedule (i + 1) (r .state)) % 4294967296)
+        → (elim b as (λ _. Ran) [ true ↦ runFrom k image schedule (i + 1) (r .state) | false ↦ ran (r .state) i (r .stop) ]) .state .cycles
+        ≡ (s .cycles + (elim b as (λ _. ℕ) [ true ↦ cost + costsOf k image schedule (i + 1) (r .state) | false ↦ 0 ])) % 4294967296
+    on true h rest =
+        let e = step-accounts s small image (recordAt schedule i) .completed (eqb-true (r .stop) 0 h) in
+        let b : r .state .cycles < 4294967296 = omega (arith, e) in
+        rest b ∙ sums (s .cycles) cost _ (r .state .cycles) e
+    on false h rest = ap (λ (x : State). x .cycles) (step-accounts s small image (recordAt schedule i) .refused (eqb-false (r .stop) 0 h)) ∙ same-total s small
+
+-- a run answers the number of its completed steps, and the start's cycle total with their costs
+pub record Counted (count cost : ℕ) (s : State) (r : Ran) : Type 0 where
+  pub steps : r .steps ≡ count
+  pub cycles : r .state .cycles ≡ (s .cycles + cost) % 4294967296
+
+pub run-counted : (image schedule : List ℕ) (s : State) → s .cycles < 4294967296
+    → Counted (completedSteps image s schedule) (totalCost image s schedule) s (runOf image s schedule)
+unfolding runOf completedSteps totalCost
+run-counted image schedule s small = on (eqb (length image) romLength && eqb (length schedule % recordLength) 0)
+  where
+    n : ℕ
+    n = length schedule / recordLength
+
+    on : (b : Bool)
+        → Counted (pick b (completedOf n image schedule 0 s) 0) (pick b (costsOf n image schedule 0 s) 0) s
+        (pick b (runFrom n image schedule 0 s) (ran s 0 7))
+    on true = record { steps = omega (arith, run-steps n image schedule 0 s); cycles = run-cycles n image schedule 0 s small }
+    on false = record { steps = refl; cycles = same-total s small }
+
+-- the same of what is equal to the run
+pub counts-too : (image schedule : List ℕ) (s : State) (r : Ran) → s .cycles < 4294967296 → r ≡ runOf image s schedule
+    → (r ≡ runOf image s schedule) × Counted (completedSteps image s schedule) (totalCost image s schedule) s r
+counts-too image schedule s r small e = (e, rw e (run-counted image schedule s small))

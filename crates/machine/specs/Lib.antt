@@ -1,0 +1,3 @@
+pub mod Count
+pub mod InPlace
+pub mod ResetState

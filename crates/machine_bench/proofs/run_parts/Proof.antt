@@ -1,0 +1,45 @@
+use Prim.Native.Nat.{_-_}
+use borrow.Author.Needs.{needs}
+use Rattle.machine_bench.proofs.run_parts.Statement.{statement}
+use Rattle.machine_bench.proofs.run_parts.Tie as tie
+
+abbrev Inv-loop : tie.InvT-loop
+Inv-loop image records parts state₀ left₀ state left = Unit {0}
+
+abbrev μ-loop : tie.MeasureT-loop
+μ-loop image records parts state₀ left₀ state left = left
+
+reset-requires : tie.Need-reset-requires Inv-loop μ-loop
+reset-requires c κs = search needs
+
+loop-holds : tie.Need-loop-holds Inv-loop μ-loop
+loop-holds c = search needs
+
+run-requires : tie.Need-run-requires Inv-loop μ-loop
+run-requires c κs = search needs
+
+sub-left : tie.Need-sub-left Inv-loop μ-loop
+sub-left c = search needs
+
+loop-less : tie.Need-loop-less Inv-loop μ-loop
+loop-less c = search needs
+
+loop-again : tie.Need-loop-again Inv-loop μ-loop
+loop-again c = search needs
+
+returns : tie.Need-returns Inv-loop μ-loop
+returns c = search needs
+
+pub run-parts-spec : {M : Type 1} → statement M
+run-parts-spec =
+    tie.close
+    (tie.spec
+    Inv-loop
+    μ-loop
+    reset-requires
+    loop-holds
+    run-requires
+    sub-left
+    loop-less
+    loop-again
+    returns)

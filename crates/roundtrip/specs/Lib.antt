@@ -1,0 +1,3 @@
+pub mod Copy
+pub mod EncodedDecodes
+pub mod RoundTrip
