@@ -153,6 +153,10 @@ case-h : CaseHolds (stores 0xE8 0x0F 0x0E 0x0E)
 unfolding opened
 case-h = refl
 
+-- image P with its certificate is accepted
+pub accepted-p : verdictOf (imageWith 0x7B) (certificateWith 364 0xA0) ≡ Accepted
+accepted-p = on-tables 0x7B 364 0xA0 ∙ case-i
+
 -- the one theorem over the list
 pub all-hold : AllHold cases
 all-hold = (
