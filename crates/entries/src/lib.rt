@@ -1,0 +1,178 @@
+// The certificate's parts and fields. Each read is total: past the end a byte counts as 0, as in the definitions.
+ghost use mathlib.Core.Path.{_≡_};
+ghost use lib.ListN.{getD, take, drop};
+ghost use Rattle.certificate.specs.Layout.{entryPart, cellPart, rowPart, certificateOf};
+ghost use Prim.Native.Nat.{_<_};
+ghost use Rattle.entries.specs.Fields.{word, claimOf, entryOf, cellOf, rowOf};
+use base::RegAddr;
+use base::RomAddr;
+
+// That a cell holds low to high; cell FFH is no claim.
+pub struct Claim {
+    pub cell: RegAddr,
+    pub low: u8,
+    pub high: u8,
+}
+
+// That the flags are those of `CP cell,#number`; cell FFH is no compare.
+pub struct Compare {
+    pub cell: RegAddr,
+    pub number: u8,
+}
+
+// The entry of a ROM address.
+pub struct Entry {
+    pub routine: u8,
+    pub depth: u8,
+    pub base: u16,
+    pub slope: u8,
+    pub direction: u8,
+    pub first: Claim,
+    pub second: Claim,
+    pub compare: Compare,
+}
+
+// The row of a register.
+pub struct CellRow {
+    pub class: u8,
+    pub limit: u8,
+    pub table: u8,
+}
+
+// The row of a routine.
+pub struct RoutineRow {
+    pub start: RomAddr,
+    pub side: u8,
+    pub need: u8,
+    pub bound: u16,
+}
+
+// The byte at i, 0 past the end.
+pub fn byte_at(s: &[u8], i: usize) -> u8
+    ensures { λ r. ⌜ r ≡ getD (now (s .entry)) i 0 ⌝ }
+{
+    if i < s.len() { s[i] } else { 0 }
+}
+
+// The number at i, high byte first.
+fn word_at(s: &[u8], i: usize) -> u16
+    requires { ⌜ i < 65536 ⌝ }
+    ensures { λ r. ⌜ r ≡ word (now (s .entry)) i ⌝ }
+{
+    byte_at(s, i) as u16 * 256 + byte_at(s, i + 1) as u16
+}
+
+// The w bytes from i on, or as many as there are.
+fn piece(b: &[u8], i: usize, w: usize) -> &[u8]
+    ensures { λ r. ⌜ now r ≡ take w (drop i (now (b .entry))) ⌝ }
+{
+    let n = b.len();
+    if n <= i {
+        return &b[0..0];
+    }
+    if n - i < w {
+        return &b[i..];
+    }
+    let e = i + w;
+    &b[i..e]
+}
+
+// The entry of a ROM address, as that part of the certificate; past the ROM an empty part.
+pub fn entry_part(cert: &[u8], a: usize) -> &[u8]
+    ensures { λ r. ⌜ now r ≡ entryPart (now (cert .entry)) a ⌝ }
+{
+    if a < 4096 {
+        return piece(cert, 14 * a, 14);
+    }
+    &cert[0..0]
+}
+
+// The row of a register, as that part of the certificate.
+pub fn cell_part(cert: &[u8], x: usize) -> &[u8]
+    ensures { λ r. ⌜ now r ≡ cellPart (now (cert .entry)) x ⌝ }
+{
+    if x < 256 {
+        return piece(cert, 0xE000 + 3 * x, 3);
+    }
+    &cert[0..0]
+}
+
+// The row of a routine, as that part of the certificate; past the last an empty part.
+pub fn row_part(cert: &[u8], n: usize) -> &[u8]
+    ensures { λ r. ⌜ now r ≡ rowPart (now (cert .entry)) n ⌝ }
+{
+    if n < 64 {
+        return piece(cert, 0xE300 + 6 * n, 6);
+    }
+    &cert[0..0]
+}
+
+// The entry of a ROM address, field by field.
+pub fn entry_at(cert: &[u8], a: RomAddr) -> Entry
+    ensures { λ r. ⌜ r ≡ entryOf (certificateOf (now (cert .entry))) (a .0) ⌝ }
+{
+    let e = entry_part(cert, a.0 as usize);
+    Entry {
+        routine: byte_at(e, 0),
+        depth: byte_at(e, 1),
+        base: word_at(e, 2),
+        slope: byte_at(e, 4),
+        direction: byte_at(e, 5),
+        first: claim_at(e, 6),
+        second: claim_at(e, 9),
+        compare: Compare {
+            cell: RegAddr(byte_at(e, 12)),
+            number: byte_at(e, 13),
+        },
+    }
+}
+
+// The claim at i of an entry's part.
+fn claim_at(e: &[u8], i: usize) -> Claim
+    requires { ⌜ i < 65536 ⌝ }
+    ensures { λ r. ⌜ r ≡ claimOf (now (e .entry)) i ⌝ }
+{
+    Claim {
+        cell: RegAddr(byte_at(e, i)),
+        low: byte_at(e, i + 1),
+        high: byte_at(e, i + 2),
+    }
+}
+
+// The row of a register, field by field.
+pub fn cell_row(cert: &[u8], x: RegAddr) -> CellRow
+    ensures { λ r. ⌜ r ≡ cellOf (certificateOf (now (cert .entry))) (x .0) ⌝ }
+{
+    let b = cell_part(cert, x.0 as usize);
+    CellRow {
+        class: byte_at(b, 0),
+        limit: byte_at(b, 1),
+        table: byte_at(b, 2),
+    }
+}
+
+// The row of a routine, field by field.
+pub fn routine_row(cert: &[u8], n: u8) -> RoutineRow
+    ensures { λ r. ⌜ r ≡ rowOf (certificateOf (now (cert .entry))) n ⌝ }
+{
+    let b = row_part(cert, n as usize);
+    RoutineRow {
+        start: RomAddr(word_at(b, 0)),
+        side: byte_at(b, 2),
+        need: byte_at(b, 3),
+        bound: word_at(b, 4),
+    }
+}
+
+// The stack is floor to top - 1.
+pub fn stack_floor(cert: &[u8]) -> u8
+    ensures { λ r. ⌜ r ≡ certificateOf (now (cert .entry)) .floor ⌝ }
+{
+    byte_at(cert, 0xE480)
+}
+
+pub fn stack_top(cert: &[u8]) -> u8
+    ensures { λ r. ⌜ r ≡ certificateOf (now (cert .entry)) .top ⌝ }
+{
+    byte_at(cert, 0xE481)
+}

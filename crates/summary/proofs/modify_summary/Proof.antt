@@ -1,0 +1,34 @@
+use Rattle.certificate.specs.Summaries.{summaryOf}
+use borrow.Author.Needs.{needs}
+use Rattle.summary.proofs.modify_summary.Statement.{statement}
+use Rattle.summary.proofs.modify_summary.Tie as tie
+
+modify-value-requires : tie.Need-modify-value-requires
+modify-value-requires c κs = search needs
+
+write-to-requires : tie.Need-write-to-requires
+write-to-requires c κs = search needs
+
+modify-flags-requires : tie.Need-modify-flags-requires
+modify-flags-requires c κs = search needs
+
+moving-requires : tie.Need-moving-requires
+moving-requires c κs = search needs
+
+into-requires : tie.Need-into-requires
+into-requires c κs = search needs
+
+returns : tie.Need-returns
+unfolding summaryOf
+returns c = simp (c .into .ensures, c .before .moving .ensures, c .before .before .modify-flags .ensures, c .before .before .before .write-to .ensures, c .before .before .before .before .modify-value .ensures)
+
+pub modify-summary-spec : {M : Type 1} → statement M
+modify-summary-spec =
+    tie.close
+    (tie.spec
+    modify-value-requires
+    write-to-requires
+    modify-flags-requires
+    moving-requires
+    into-requires
+    returns)
