@@ -212,7 +212,11 @@ pub fn feasible(cert: &[u8], a: RomAddr, e: Edge) -> bool
 fn changed_if(b: bool, v: NewValue) -> Change
     ensures { λ r. ⌜ r ≡ pick b (Change.Changed v) Change.Unchanged ⌝ }
 {
-    if b { Change::Changed(v) } else { Change::Unchanged }
+    if b {
+        Change::Changed(v)
+    } else {
+        Change::Unchanged
+    }
 }
 
 // x is among the addresses that a pointer's claim, plus the offset, reaches.

@@ -83,9 +83,10 @@ module _ (C : Certificate) (a : ℕ) (e : rules.Edge) where
 
     among-first : Holds (among (firstValuesOf C a e (C .firstCell a)) c) → Holds (firstValue C a e c)
     unfolding firstValue among
-    among-first m =
-        ( λ (q : C .firstCell a ≢ 255). among-left C a e (C .firstCell a) c (rw (ne-eqb (C .firstCell a) 255 q) at m)
-        , λ (q : C .firstCell a ≡ 255). zero-only (rw (eq-eqb (C .firstCell a) 255 q) at m .1 .0) )
+    among-first m = (
+      λ (q : C .firstCell a ≢ 255). among-left C a e (C .firstCell a) c (rw (ne-eqb (C .firstCell a) 255 q) at m),
+      λ (q : C .firstCell a ≡ 255). zero-only (rw (eq-eqb (C .firstCell a) 255 q) at m .1 .0),
+    )
       where
         zero-only : c ≤ 0 → c ≡ 0
         zero-only h = omega arith

@@ -164,7 +164,11 @@ fn after_edge(cert: &[u8], a: RomAddr, w: Write, t: RomAddr) -> After
 fn after_callee(kept: bool, bound: u16, e: Entry) -> After
     ensures { λ r. ⌜ r ≡ pick kept (After.Along bound e) (After.Worst bound e) ⌝ }
 {
-    if kept { After::Along(bound, e) } else { After::Worst(bound, e) }
+    if kept {
+        After::Along(bound, e)
+    } else {
+        After::Worst(bound, e)
+    }
 }
 
 // The callee's bound, and behind CALL c goes along if no callee can write the cell.

@@ -344,7 +344,8 @@ fn edges25(cert: &[u8], a: RomAddr, f: Flow, k: StackEffect, next: RomAddr) -> b
     match f {
         Flow::Step(cc, to) => {
             let there = entries::entry_at(cert, to);
-            ((cc == 8) | (behind.depth as u16 == depth)) & ((cc == 0) | (there.depth as u16 == depth))
+            ((cc == 8) | (behind.depth as u16 == depth))
+                & ((cc == 0) | (there.depth as u16 == depth))
         }
         Flow::Call(_) => true,
         Flow::Return => true,

@@ -173,7 +173,13 @@ fn binary_summary(stored: bool, op: Alu, d: Operand, s: Operand) -> Summary
 {
     if stored {
         let w = write_to(d, binary_value(op, s));
-        return moving(w, Access::Nothing, reading(s), FlagEffect::Changed, StackEffect::Same);
+        return moving(
+            w,
+            Access::Nothing,
+            reading(s),
+            FlagEffect::Changed,
+            StackEffect::Same,
+        );
     }
     let g = binary_flags(op, d, s);
     moving(Write::Nothing, reading(d), reading(s), g, StackEffect::Same)
@@ -216,7 +222,13 @@ fn modify_summary(op: Unary, d: Operand) -> Summary
     ensures { λ r. ⌜ r ≡ summaryOf (Action.Modify op d) ⌝ }
 {
     let w = write_to(d, modify_value(op));
-    let s = moving(w, Access::Nothing, Access::Nothing, modify_flags(op), StackEffect::Same);
+    let s = moving(
+        w,
+        Access::Nothing,
+        Access::Nothing,
+        modify_flags(op),
+        StackEffect::Same,
+    );
     into(d, s)
 }
 
@@ -292,7 +304,11 @@ fn code_access(c: CodeAddress) -> CodeAccess
 fn switching(on: bool) -> Control
     ensures { λ r. ⌜ r ≡ Rattle.certificate.specs.Summaries.switching on ⌝ }
 {
-    if on { Control::Enable } else { Control::Disable }
+    if on {
+        Control::Enable
+    } else {
+        Control::Disable
+    }
 }
 
 // A summary of control alone that changes no flag.
@@ -312,14 +328,26 @@ fn plain(g: FlagEffect, c: Control) -> Summary
 fn push_summary(s: Operand) -> Summary
     ensures { λ r. ⌜ r ≡ summaryOf (Action.Push s) ⌝ }
 {
-    moving(Write::Nothing, Access::Nothing, reading(s), FlagEffect::Kept, StackEffect::Push)
+    moving(
+        Write::Nothing,
+        Access::Nothing,
+        reading(s),
+        FlagEffect::Kept,
+        StackEffect::Push,
+    )
 }
 
 fn pop_summary(d: Operand) -> Summary
     ensures { λ r. ⌜ r ≡ summaryOf (Action.Pop d) ⌝ }
 {
     let w = write_to(d, NewValue::Unknown);
-    let s = moving(w, Access::Nothing, Access::Nothing, FlagEffect::Kept, StackEffect::Pop);
+    let s = moving(
+        w,
+        Access::Nothing,
+        Access::Nothing,
+        FlagEffect::Kept,
+        StackEffect::Pop,
+    );
     into(d, s)
 }
 
@@ -339,10 +367,7 @@ pub fn summary_of(action: Action) -> Summary
         Action::Load(d, s) => load_summary(d, s),
         Action::Push(s) => push_summary(s),
         Action::Pop(d) => pop_summary(d),
-        Action::LoadCode(d, c) => reaching(
-            Write::Register(d, NewValue::Unknown),
-            code_access(c),
-        ),
+        Action::LoadCode(d, c) => reaching(Write::Register(d, NewValue::Unknown), code_access(c)),
         Action::LoadCodeStep(d, p, _) => reaching(
             Write::RegisterAndPair(d, p),
             CodeAccess::Pair(p, 0, 0),

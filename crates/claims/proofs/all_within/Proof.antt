@@ -1,20 +1,15 @@
-use Rattle.base.specs.Formula.{neg, le?}
+use Rattle.base.specs.Formula.{le?}
 use mathlib.Core.Logic.{⊎-elim}
-use Rattle.claims.specs.Values.{among, noneAmong, staysWithin, allWithin, lowIn, highIn}
+use Rattle.claims.specs.Values.{among, staysWithin, allWithin}
 use borrow.Author.Count.{below-more}
-use mathlib.Core.Bool.{true, false}
-use Rattle.certificate.specs.Layout.{certificateOf}
-use Rattle.base.specs.Formula.{Formula, Holds, decide, decide-yes, decide-no, decide-true, decide-false, decide-step}
-use Prim.Native.Nat.{ℕ, _+_, _-_, _*_, _≤_, _<_}
-use borrow.Author.Tests.{eq-eqb, ne-eqb, lt-ltb, le-ltb, le-leb, lt-leb, not-true, not-false}
+use Rattle.base.specs.Formula.{Holds, decide-yes, decide-no, decide-true, decide-false}
+use Prim.Native.Nat.{ℕ, _-_, _≤_, _<_}
+use borrow.Author.Tests.{not-true, not-false}
 use borrow.Author.Needs.{needs}
 use native.Mathlib.Omega.{arith}
-use mathlib.Core.Path.{_≡_, refl, sym, ap, _∙_}
+use mathlib.Core.Path.{_≡_, refl}
 use Rattle.claims.proofs.all_within.Statement.{statement}
 use Rattle.claims.proofs.all_within.Tie as tie
-use Rattle.claims.proofs.all_within.Reads as reads
-use Rattle.claims.proofs.all_within.Lts as lts
-use Rattle.claims.proofs.stays.Reads as stays-reads
 
 abbrev Inv-loop : tie.InvT-loop
 Inv-loop s l h high v₀ v = (v ≤ 256) × (high ≡ s .high) × ((x : ℕ) → x < v → Holds (staysWithin s l h x))
@@ -22,45 +17,35 @@ Inv-loop s l h high v₀ v = (v ≤ 256) × (high ≡ s .high) × ((x : ℕ) →
 abbrev μ-loop : tie.MeasureT-loop
 μ-loop s l h high v₀ v = 256 - v
 
--- src/lib.rt:170:16
 cast-high : tie.Need-cast-high Inv-loop μ-loop
 cast-high c = search needs
 
--- src/lib.rt:171:17
 cast-v : tie.Need-cast-v Inv-loop μ-loop
 cast-v c = search needs
 
--- src/lib.rt:172:5
 loop-holds : tie.Need-loop-holds Inv-loop μ-loop
 unfolding among
 loop-holds c = (omega arith, refl, λ x hx m. absurd (omega (arith, m .0)))
 
--- src/lib.rt:173:22
 cast-stays : tie.Need-cast-stays Inv-loop μ-loop
 cast-stays c = omega arith
 
--- src/lib.rt:173:13
 stays-requires : tie.Need-stays-requires Inv-loop μ-loop
 stays-requires c κs = search needs
 
--- src/lib.rt:174:13
 returns : tie.Need-returns Inv-loop μ-loop
 unfolding among allWithin
 returns c = let s = c .before .before .before .before .before .before .args .s in let l = c .before .before .before .before .before .before .args .l in let h = c .before .before .before .before .before .before .args .h in decide-no (allWithin s l h) (λ f. decide-false (staysWithin s l h (c .before .before .before .loop .v)) (c .before .stays .ensures) (not-true _ (c .if1 .taken)) (f (c .before .before .before .loop .v) (omega arith)))
 
--- src/lib.rt:176:9
 add-v : tie.Need-add-v Inv-loop μ-loop
 add-v c = omega arith
 
--- src/lib.rt:172:5
 loop-less : tie.Need-loop-less Inv-loop μ-loop
 loop-less c = omega arith
 
--- src/lib.rt:172:5
 loop-again : tie.Need-loop-again Inv-loop μ-loop
 loop-again c = let s = c .before .before .before .before .before .before .args .s in let l = c .before .before .before .before .before .before .args .l in let h = c .before .before .before .before .before .before .args .h in (omega arith, c .before .before .before .loop .inv .1, below-more _ _ (c .before .before .before .loop .inv .2) (decide-true (staysWithin s l h (c .before .before .before .loop .v)) (c .before .stays .ensures) (not-false _ (c .if1 .left))))
 
--- src/lib.rt:167:1
 returns-2 : tie.Need-returns-2 Inv-loop μ-loop
 unfolding among allWithin
 returns-2 c = let s = c .before .before .before .before .args .s in let l = c .before .before .before .before .args .l in let h = c .before .before .before .before .args .h in decide-yes (allWithin s l h) (λ x hx. ⊎-elim (λ (q : c .before .loop .v ≤ x) m. absurd (omega (arith, m .1 .0))) (λ (q : x < c .before .loop .v). c .before .loop .inv .2 x q) (le? (c .before .loop .v) x))

@@ -2,15 +2,10 @@ use Rattle.safety.specs.Rules.{claimed}
 use borrow.Author.Needs.{needs}
 use Rattle.claims.proofs.claimed.Statement.{statement}
 use Rattle.claims.proofs.claimed.Tie as tie
-use Rattle.claims.proofs.claimed.Reads as reads
-use Rattle.claims.proofs.claimed.Lts as lts
-use Rattle.entries.proofs.entry_at.Reads as entry-at-reads
 
--- src/lib.rt:70:9
 entry-at-requires : tie.Need-entry-at-requires
 entry-at-requires c κs = search needs
 
--- src/lib.rt:67:1
 returns : tie.Need-returns
 unfolding claimed
 returns c = simp (c .before .before .before .before .before .entry-at .ensures)

@@ -1,46 +1,32 @@
 use Rattle.safety.specs.Rules.{claimed}
 use Rattle.claims.specs.declared.Values.{Values}
-use Rattle.claims.specs.Values.{edgeOf, among, noneAmong, valuesOf, feasibleFor, left-among, among-left}
-use borrow.Author.Count.{below-more}
-use mathlib.Core.Bool.{true, false}
+use Rattle.claims.specs.Values.{edgeOf, noneAmong, valuesOf, feasibleFor, left-among, among-left}
 use Rattle.certificate.specs.Layout.{certificateOf}
-use Rattle.base.specs.Formula.{Formula, Holds, decide, decide-yes, decide-no, decide-true, decide-false, decide-step}
-use Prim.Native.Nat.{ℕ, _+_, _-_, _*_, _≤_, _<_}
-use borrow.Author.Tests.{eq-eqb, ne-eqb, lt-ltb, le-ltb, le-leb, lt-leb, not-true, not-false}
-use native.Mathlib.Omega.{arith}
-use mathlib.Core.Path.{_≡_, refl, sym, ap, _∙_}
+use Rattle.base.specs.Formula.{decide, decide-yes, decide-no, decide-true, decide-false}
+use Prim.Native.Nat.{_-_}
+use borrow.Author.Tests.{not-true, not-false}
+use mathlib.Core.Path.{ap, _∙_}
 use borrow.Author.Needs.{needs}
 use Rattle.claims.proofs.feasible_for.Statement.{statement}
 use Rattle.claims.proofs.feasible_for.Tie as tie
-use Rattle.claims.proofs.feasible_for.Reads as reads
-use Rattle.claims.proofs.feasible_for.Lts as lts
-use Rattle.claims.proofs.claimed.Reads as claimed-reads
-use Rattle.claims.proofs.none_left.Reads as none-left-reads
-use Rattle.claims.proofs.values_left.Reads as values-left-reads
 
--- src/lib.rt:195:9
 claimed-requires : tie.Need-claimed-requires
 claimed-requires c κs = search needs
 
--- src/lib.rt:196:9
 returns : tie.Need-returns
 unfolding feasibleFor noneAmong
 returns c = let g = c .before .before .before .args in let C = certificateOf (g .cert .now) in let a = g .a .0 in let e = edgeOf (g .e) in let x = g .x .0 in decide-yes (feasibleFor C a e x) (λ m. absurd (decide-false (claimed C a x) (c .before .claimed .ensures) (not-true _ (c .if1 .taken)) m))
 
--- src/lib.rt:198:18
 values-left-requires : tie.Need-values-left-requires
 values-left-requires c κs = search needs
 
--- src/lib.rt:198:8
 none-left-requires : tie.Need-none-left-requires
 none-left-requires c κs = search needs
 
--- src/lib.rt:199:9
 returns-2 : tie.Need-returns-2
 unfolding feasibleFor noneAmong
 returns-2 c = let g = c .before .before .before .before .before .before .args in let C = certificateOf (g .cert .now) in let a = g .a .0 in let e = edgeOf (g .e) in let x = g .x .0 in decide-no (feasibleFor C a e x) (λ f. f (decide-true (claimed C a x) (c .before .before .before .before .claimed .ensures) (not-false _ (c .before .before .before .if1 .left))) (λ v hv m. decide-true (noneAmong (valuesOf C a e x)) (c .before .none-left .ensures ∙ ap (λ (s : Values). decide (noneAmong s)) (c .before .before .values-left .ensures)) (c .if2 .taken) v hv (left-among C a e x v m)))
 
--- src/lib.rt:192:1
 returns-3 : tie.Need-returns-3
 unfolding feasibleFor noneAmong
 returns-3 c = let g = c .before .before .before .before .before .before .args in let C = certificateOf (g .cert .now) in let a = g .a .0 in let e = edgeOf (g .e) in let x = g .x .0 in decide-yes (feasibleFor C a e x) (λ m f. decide-false (noneAmong (valuesOf C a e x)) (c .before .none-left .ensures ∙ ap (λ (s : Values). decide (noneAmong s)) (c .before .before .values-left .ensures)) (c .if2 .left) (λ v hv k. f v hv (among-left C a e x v k)))

@@ -1,21 +1,16 @@
-use Rattle.claims.specs.Values.{among, noneAmong, staysWithin, allWithin, lowIn, highIn}
-use borrow.Author.Tests.{lt-ltb, le-ltb, le-leb, lt-leb, eq-eqb, ne-eqb}
+use Rattle.claims.specs.Values.{lowIn}
+use borrow.Author.Tests.{eq-eqb, ne-eqb}
 use Rattle.claims.proofs.low_in.Statement.{statement}
 use Rattle.claims.proofs.low_in.Tie as tie
-use Rattle.claims.proofs.low_in.Reads as reads
-use Rattle.claims.proofs.low_in.Lts as lts
 
--- src/lib.rt:45:9
 returns : tie.Need-returns
 unfolding lowIn
 returns c = simp (eq-eqb _ _ (c .if1 .taken))
 
--- src/lib.rt:48:9
 returns-2 : tie.Need-returns-2
 unfolding lowIn
 returns-2 c = simp (eq-eqb _ _ (c .if2 .taken), ne-eqb _ _ (c .before .before .before .if1 .left))
 
--- src/lib.rt:41:1
 returns-3 : tie.Need-returns-3
 unfolding lowIn
 returns-3 c = simp (ne-eqb _ _ (c .if2 .left), ne-eqb _ _ (c .before .before .before .if1 .left))

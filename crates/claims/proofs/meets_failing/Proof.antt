@@ -1,41 +1,32 @@
 use Rattle.safety.specs.Rules.{meets}
-use borrow.Author.Tests.{lt-ltb, le-ltb, le-leb, lt-leb, eq-eqb, ne-eqb}
+use borrow.Author.Tests.{ne-eqb}
 use Rattle.claims.proofs.meets_failing.Statement.{statement}
 use Rattle.claims.proofs.meets_failing.Tie as tie
-use Rattle.claims.proofs.meets_failing.Reads as reads
-use Rattle.claims.proofs.meets_failing.Lts as lts
 
--- src/lib.rt:98:1
 returns : tie.Need-returns
 unfolding meets
 returns c = simp (c .match .keys1)
 
--- src/lib.rt:98:1
 returns-2 : tie.Need-returns-2
 unfolding meets
 returns-2 c = simp (c .match .keys2)
 
--- src/lib.rt:98:1
 returns-3 : tie.Need-returns-3
 unfolding meets
 returns-3 c = simp (c .match .keys3)
 
--- src/lib.rt:98:1
 returns-4 : tie.Need-returns-4
 unfolding meets
 returns-4 c = simp (c .match .keys4)
 
--- src/lib.rt:98:1
 returns-5 : tie.Need-returns-5
 unfolding meets
 returns-5 c = simp (c .match .keys5)
 
--- src/lib.rt:98:1
 returns-6 : tie.Need-returns-6
 unfolding meets
 returns-6 c = simp (c .match .keys6)
 
--- src/lib.rt:98:1
 returns-7 : tie.Need-returns-7
 unfolding meets
 returns-7 c = simp (ne-eqb _ _ (c .match .rest .1), ne-eqb _ _ (c .match .rest .0 .1), ne-eqb _ _ (c .match .rest .0 .0 .1), ne-eqb _ _ (c .match .rest .0 .0 .0 .1), ne-eqb _ _ (c .match .rest .0 .0 .0 .0 .1), ne-eqb _ _ (c .match .rest .0 .0 .0 .0 .0 .1))

@@ -1,21 +1,15 @@
-use Rattle.claims.specs.Values.{among, noneAmong, staysWithin, allWithin, lowIn, highIn}
+use Rattle.claims.specs.Values.{among, noneAmong}
 use mathlib.Core.Logic.{⊎-elim}
 use Rattle.base.specs.Formula.{neg, le?}
 use Rattle.claims.specs.Values.{among, noneAmong}
 use borrow.Author.Count.{below-more}
-use mathlib.Core.Bool.{true, false}
-use Rattle.certificate.specs.Layout.{certificateOf}
-use Rattle.base.specs.Formula.{Formula, Holds, decide, decide-yes, decide-no, decide-true, decide-false, decide-step}
-use Prim.Native.Nat.{ℕ, _+_, _-_, _*_, _≤_, _<_}
-use borrow.Author.Tests.{eq-eqb, ne-eqb, lt-ltb, le-ltb, le-leb, lt-leb, not-true, not-false}
+use Rattle.base.specs.Formula.{Holds, decide-yes, decide-no, decide-true, decide-false}
+use Prim.Native.Nat.{ℕ, _-_, _≤_, _<_}
 use borrow.Author.Needs.{needs}
 use native.Mathlib.Omega.{arith}
-use mathlib.Core.Path.{_≡_, refl, sym, ap, _∙_}
+use mathlib.Core.Path.{_≡_, refl}
 use Rattle.claims.proofs.none_left.Statement.{statement}
 use Rattle.claims.proofs.none_left.Tie as tie
-use Rattle.claims.proofs.none_left.Reads as reads
-use Rattle.claims.proofs.none_left.Lts as lts
-use Rattle.claims.proofs.has.Reads as has-reads
 
 abbrev Inv-loop : tie.InvT-loop
 Inv-loop s high v₀ v = (v ≤ 256) × (high ≡ s .high) × ((x : ℕ) → x < v → Holds (neg (among s x)))
@@ -23,45 +17,35 @@ Inv-loop s high v₀ v = (v ≤ 256) × (high ≡ s .high) × ((x : ℕ) → x <
 abbrev μ-loop : tie.MeasureT-loop
 μ-loop s high v₀ v = 256 - v
 
--- src/lib.rt:148:16
 cast-high : tie.Need-cast-high Inv-loop μ-loop
 cast-high c = search needs
 
--- src/lib.rt:149:17
 cast-v : tie.Need-cast-v Inv-loop μ-loop
 cast-v c = search needs
 
--- src/lib.rt:150:5
 loop-holds : tie.Need-loop-holds Inv-loop μ-loop
 unfolding among
 loop-holds c = (omega arith, refl, λ x hx m. absurd (omega (arith, m .0)))
 
--- src/lib.rt:151:19
 cast-has : tie.Need-cast-has Inv-loop μ-loop
 cast-has c = omega arith
 
--- src/lib.rt:151:12
 has-requires : tie.Need-has-requires Inv-loop μ-loop
 has-requires c κs = search needs
 
--- src/lib.rt:152:13
 returns : tie.Need-returns Inv-loop μ-loop
 unfolding among noneAmong
 returns c = let s = c .before .before .before .before .before .before .args .s in decide-no (noneAmong s) (λ f. f (c .before .before .before .loop .v) (omega arith) (decide-true (among s (c .before .before .before .loop .v)) (c .before .has .ensures) (c .if1 .taken)))
 
--- src/lib.rt:154:9
 add-v : tie.Need-add-v Inv-loop μ-loop
 add-v c = omega arith
 
--- src/lib.rt:150:5
 loop-less : tie.Need-loop-less Inv-loop μ-loop
 loop-less c = omega arith
 
--- src/lib.rt:150:5
 loop-again : tie.Need-loop-again Inv-loop μ-loop
 loop-again c = let s = c .before .before .before .before .before .before .args .s in (omega arith, c .before .before .before .loop .inv .1, below-more _ _ (c .before .before .before .loop .inv .2) (decide-false (among s (c .before .before .before .loop .v)) (c .before .has .ensures) (c .if1 .left)))
 
--- src/lib.rt:145:1
 returns-2 : tie.Need-returns-2 Inv-loop μ-loop
 unfolding among noneAmong
 returns-2 c = let s = c .before .before .before .before .args .s in decide-yes (noneAmong s) (λ x hx. ⊎-elim (λ (q : c .before .loop .v ≤ x) m. absurd (omega (arith, m .1 .0))) (λ (q : x < c .before .loop .v). c .before .loop .inv .2 x q) (le? (c .before .loop .v) x))

@@ -4,25 +4,16 @@ use mathlib.Core.Bool.{and-assoc, or-assoc, Bool·not-not}
 use borrow.Author.Needs.{needs}
 use Rattle.rule20.proofs.cell_rule.Statement.{statement}
 use Rattle.rule20.proofs.cell_rule.Tie as tie
-use Rattle.rule20.proofs.cell_rule.Reads as reads
-use Rattle.rule20.proofs.cell_rule.Lts as lts
-use Rattle.chip.proofs.mapped.Reads as mapped-reads
-use Rattle.entries.proofs.cell_row.Reads as cell-row-reads
-use Rattle.rule20.proofs.in_stack.Reads as in-stack-reads
 
--- src/lib.rt:32:9
 cell-row-requires : tie.Need-cell-row-requires
 cell-row-requires c κs = search needs
 
--- src/lib.rt:34:20
 in-stack-requires : tie.Need-in-stack-requires
 in-stack-requires c κs = search needs
 
--- src/lib.rt:34:49
 mapped-requires : tie.Need-mapped-requires
 mapped-requires c κs = search needs
 
--- src/lib.rt:29:1
 returns : tie.Need-returns
 unfolding cellRule
 returns c = simp (c .before .before .before .in-stack .ensures, c .before .before .before .before .mapped .ensures, c .before .before .before .before .before .before .before .before .cell-row .ensures, and-assoc, or-assoc, Bool·not-not)

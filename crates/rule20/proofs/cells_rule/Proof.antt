@@ -1,19 +1,14 @@
-use Rattle.rule20.specs.Parts.{cellsRule, startsRule, addressesRule}
-use Rattle.safety.specs.Rules.{cellRule, startRule, addressRule}
+use Rattle.rule20.specs.Parts.{cellsRule}
+use Rattle.safety.specs.Rules.{cellRule}
 use borrow.Author.Count.{below-more}
-use mathlib.Core.Bool.{true, false}
 use Rattle.certificate.specs.Layout.{certificateOf}
-use Rattle.base.specs.Formula.{Formula, Holds, decide, decide-yes, decide-no, decide-true, decide-false, decide-step}
-use Prim.Native.Nat.{ℕ, _+_, _-_, _*_, _≤_, _<_}
-use borrow.Author.Tests.{eq-eqb, ne-eqb, lt-ltb, le-ltb, le-leb, lt-leb, not-true, not-false}
+use Rattle.base.specs.Formula.{Holds, decide-yes, decide-no, decide-true, decide-false}
+use Prim.Native.Nat.{ℕ, _-_, _≤_, _<_}
+use borrow.Author.Tests.{not-true, not-false}
 use borrow.Author.Needs.{needs}
 use native.Mathlib.Omega.{arith}
-use mathlib.Core.Path.{_≡_, refl, sym, ap, _∙_}
 use Rattle.rule20.proofs.cells_rule.Statement.{statement}
 use Rattle.rule20.proofs.cells_rule.Tie as tie
-use Rattle.rule20.proofs.cells_rule.Reads as reads
-use Rattle.rule20.proofs.cells_rule.Lts as lts
-use Rattle.rule20.proofs.cell_rule.Reads as cell-rule-reads
 
 abbrev Inv-loop : tie.InvT-loop
 Inv-loop cert x₀ x = (x ≤ 256) × ((k : ℕ) → k < x → Holds (cellRule (certificateOf cert) k))
@@ -21,36 +16,28 @@ Inv-loop cert x₀ x = (x ≤ 256) × ((k : ℕ) → k < x → Holds (cellRule (
 abbrev μ-loop : tie.MeasureT-loop
 μ-loop cert x₀ x = 256 - x
 
--- src/lib.rt:144:5
 loop-holds : tie.Need-loop-holds Inv-loop μ-loop
 loop-holds c = (omega arith, λ k hk. absurd (omega arith))
 
--- src/lib.rt:145:37
 cast-t4 : tie.Need-cast-t4 Inv-loop μ-loop
 cast-t4 c = omega arith
 
--- src/lib.rt:145:13
 cell-rule-requires : tie.Need-cell-rule-requires Inv-loop μ-loop
 cell-rule-requires c κs = search needs
 
--- src/lib.rt:146:13
 returns : tie.Need-returns Inv-loop μ-loop
 unfolding cellsRule
 returns c = let C = certificateOf (c .before .before .before .before .before .args .cert .now) in let k = c .before .before .before .loop .x in decide-no (cellsRule C) (λ f. decide-false (cellRule C k) (c .before .cell-rule .ensures) (not-true _ (c .if1 .taken)) (f k (omega arith)))
 
--- src/lib.rt:148:9
 add-x : tie.Need-add-x Inv-loop μ-loop
 add-x c = omega arith
 
--- src/lib.rt:144:5
 loop-less : tie.Need-loop-less Inv-loop μ-loop
 loop-less c = omega arith
 
--- src/lib.rt:144:5
 loop-again : tie.Need-loop-again Inv-loop μ-loop
 loop-again c = let C = certificateOf (c .before .before .before .before .before .args .cert .now) in let k = c .before .before .before .loop .x in (omega arith, below-more _ _ (c .before .before .before .loop .inv .1) (decide-true (cellRule C k) (c .before .cell-rule .ensures) (not-false _ (c .if1 .left))))
 
--- src/lib.rt:140:1
 returns-2 : tie.Need-returns-2 Inv-loop μ-loop
 unfolding cellsRule
 returns-2 c = let C = certificateOf (c .before .before .before .args .cert .now) in decide-yes (cellsRule C) (λ k hk. c .before .loop .inv .1 k (omega arith))

@@ -3,15 +3,10 @@ use mathlib.Core.Bool.{and-assoc, or-assoc, Bool·not-not}
 use borrow.Author.Needs.{needs}
 use Rattle.rule20.proofs.claim_rule.Statement.{statement}
 use Rattle.rule20.proofs.claim_rule.Tie as tie
-use Rattle.rule20.proofs.claim_rule.Reads as reads
-use Rattle.rule20.proofs.claim_rule.Lts as lts
-use Rattle.rule20.proofs.claimable.Reads as claimable-reads
 
--- src/lib.rt:52:36
 claimable-requires : tie.Need-claimable-requires
 claimable-requires c κs = search needs
 
--- src/lib.rt:49:1
 returns : tie.Need-returns
 unfolding claimRule
 returns c = simp (c .before .before .before .before .claimable .ensures, and-assoc, or-assoc, Bool·not-not)

@@ -3,20 +3,13 @@ use mathlib.Core.Bool.{and-assoc, or-assoc, Bool·not-not}
 use borrow.Author.Needs.{needs}
 use Rattle.rule20.proofs.compare_rule.Statement.{statement}
 use Rattle.rule20.proofs.compare_rule.Tie as tie
-use Rattle.rule20.proofs.compare_rule.Reads as reads
-use Rattle.rule20.proofs.compare_rule.Lts as lts
-use Rattle.entries.proofs.entry_at.Reads as entry-at-reads
-use Rattle.rule20.proofs.claimable.Reads as claimable-reads
 
--- src/lib.rt:59:9
 entry-at-requires : tie.Need-entry-at-requires
 entry-at-requires c κs = search needs
 
--- src/lib.rt:60:9
 claimable-requires : tie.Need-claimable-requires
 claimable-requires c κs = search needs
 
--- src/lib.rt:56:1
 returns : tie.Need-returns
 unfolding compareRule
 returns c = simp (c .before .before .before .claimable .ensures, c .before .before .before .before .entry-at .ensures, and-assoc, or-assoc, Bool·not-not)

@@ -4,25 +4,16 @@ use mathlib.Core.Bool.{and-assoc, or-assoc, Bool·not-not}
 use borrow.Author.Needs.{needs}
 use Rattle.rule20.proofs.main_rule.Statement.{statement}
 use Rattle.rule20.proofs.main_rule.Tie as tie
-use Rattle.rule20.proofs.main_rule.Reads as reads
-use Rattle.rule20.proofs.main_rule.Lts as lts
-use Rattle.entries.proofs.routine_row.Reads as routine-row-reads
-use Rattle.rule20.proofs.bare_rule.Reads as bare-rule-reads
-use Rattle.rule20.proofs.used.Reads as used-reads
 
--- src/lib.rt:183:9
 routine-row-requires : tie.Need-routine-row-requires
 routine-row-requires c κs = search needs
 
--- src/lib.rt:185:6
 used-requires : tie.Need-used-requires
 used-requires c κs = search needs
 
--- src/lib.rt:185:28
 bare-rule-requires : tie.Need-bare-rule-requires
 bare-rule-requires c κs = search needs
 
--- src/lib.rt:180:1
 returns : tie.Need-returns
 unfolding mainRule
 returns c = simp (c .bare-rule .ensures, c .before .used .ensures, c .before .before .before .before .before .routine-row .ensures, and-assoc, or-assoc, Bool·not-not)

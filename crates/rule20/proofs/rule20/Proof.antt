@@ -1,56 +1,37 @@
 use Rattle.rule20.specs.Parts.{fixedRule, cellsRule, startsRule, addressesRule, rule20-split, rule20-join}
 use Rattle.safety.specs.Rules.{rule20}
-use borrow.Author.Count.{below-more}
-use mathlib.Core.Bool.{true, false}
 use Rattle.certificate.specs.Layout.{certificateOf}
-use Rattle.base.specs.Formula.{Formula, Holds, decide, decide-yes, decide-no, decide-true, decide-false, decide-step}
-use Prim.Native.Nat.{ℕ, _+_, _-_, _*_, _≤_, _<_}
-use borrow.Author.Tests.{eq-eqb, ne-eqb, lt-ltb, le-ltb, le-leb, lt-leb, not-true, not-false}
-use native.Mathlib.Omega.{arith}
-use mathlib.Core.Path.{_≡_, refl, sym, ap, _∙_}
+use Rattle.base.specs.Formula.{decide-yes, decide-no, decide-true, decide-false}
+use Prim.Native.Nat.{_-_}
+use borrow.Author.Tests.{not-true, not-false}
 use borrow.Author.Needs.{needs}
 use Rattle.rule20.proofs.rule20.Statement.{statement}
 use Rattle.rule20.proofs.rule20.Tie as tie
-use Rattle.rule20.proofs.rule20.Reads as reads
-use Rattle.rule20.proofs.rule20.Lts as lts
-use Rattle.rule20.proofs.addresses_rule.Reads as addresses-rule-reads
-use Rattle.rule20.proofs.cells_rule.Reads as cells-rule-reads
-use Rattle.rule20.proofs.fixed_rule.Reads as fixed-rule-reads
-use Rattle.rule20.proofs.starts_rule.Reads as starts-rule-reads
 
--- src/lib.rt:195:9
 fixed-rule-requires : tie.Need-fixed-rule-requires
 fixed-rule-requires c κs = search needs
 
--- src/lib.rt:196:9
 returns : tie.Need-returns
 returns c = let C = certificateOf (c .before .before .before .before .args .cert .now) in let image = c .before .before .before .before .args .image .now in decide-no (rule20 C image) (λ m. decide-false (fixedRule C image) (c .before .fixed-rule .ensures) (not-true _ (c .if1 .taken)) (rule20-split C image m .0))
 
--- src/lib.rt:198:9
 cells-rule-requires : tie.Need-cells-rule-requires
 cells-rule-requires c κs = search needs
 
--- src/lib.rt:199:9
 returns-2 : tie.Need-returns-2
 returns-2 c = let C = certificateOf (c .before .before .before .before .before .before .args .cert .now) in let image = c .before .before .before .before .before .before .args .image .now in decide-no (rule20 C image) (λ m. decide-false (cellsRule C) (c .before .cells-rule .ensures) (not-true _ (c .if2 .taken)) (rule20-split C image m .1))
 
--- src/lib.rt:201:9
 starts-rule-requires : tie.Need-starts-rule-requires
 starts-rule-requires c κs = search needs
 
--- src/lib.rt:202:9
 returns-3 : tie.Need-returns-3
 returns-3 c = let C = certificateOf (c .before .before .before .before .before .before .before .before .args .cert .now) in let image = c .before .before .before .before .before .before .before .before .args .image .now in decide-no (rule20 C image) (λ m. decide-false (startsRule C) (c .before .starts-rule .ensures) (not-true _ (c .if3 .taken)) (rule20-split C image m .2))
 
--- src/lib.rt:204:9
 addresses-rule-requires : tie.Need-addresses-rule-requires
 addresses-rule-requires c κs = search needs
 
--- src/lib.rt:205:9
 returns-4 : tie.Need-returns-4
 returns-4 c = let C = certificateOf (c .before .before .before .before .before .before .before .before .before .before .args .cert .now) in let image = c .before .before .before .before .before .before .before .before .before .before .args .image .now in decide-no (rule20 C image) (λ m. decide-false (addressesRule C) (c .before .addresses-rule .ensures) (not-true _ (c .if4 .taken)) (rule20-split C image m .3))
 
--- src/lib.rt:192:1
 returns-5 : tie.Need-returns-5
 returns-5 c = let C = certificateOf (c .before .before .before .before .before .before .before .before .before .before .args .cert .now) in let image = c .before .before .before .before .before .before .before .before .before .before .args .image .now in decide-yes (rule20 C image) (rule20-join C image (decide-true (fixedRule C image) (c .before .before .before .before .before .before .before .fixed-rule .ensures) (not-false _ (c .before .before .before .before .before .before .if1 .left))) (decide-true (cellsRule C) (c .before .before .before .before .before .cells-rule .ensures) (not-false _ (c .before .before .before .before .if2 .left))) (decide-true (startsRule C) (c .before .before .before .starts-rule .ensures) (not-false _ (c .before .before .if3 .left))) (decide-true (addressesRule C) (c .before .addresses-rule .ensures) (not-false _ (c .if4 .left))))
 

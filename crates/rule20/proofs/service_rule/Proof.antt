@@ -3,45 +3,31 @@ use mathlib.Core.Bool.{and-assoc, or-assoc, Bool·not-not}
 use borrow.Author.Needs.{needs}
 use Rattle.rule20.proofs.service_rule.Statement.{statement}
 use Rattle.rule20.proofs.service_rule.Tie as tie
-use Rattle.rule20.proofs.service_rule.Reads as reads
-use Rattle.rule20.proofs.service_rule.Lts as lts
-use Rattle.entries.proofs.byte_at.Reads as byte-at-reads
-use Rattle.entries.proofs.routine_row.Reads as routine-row-reads
-use Rattle.rule20.proofs.bare_rule.Reads as bare-rule-reads
 
--- src/lib.rt:192:9
 routine-row-requires : tie.Need-routine-row-requires
 routine-row-requires c κs = search needs
 
--- src/lib.rt:193:18
 byte-at-requires : tie.Need-byte-at-requires
 byte-at-requires c κs = search needs
 
--- src/lib.rt:193:18
 cast-vector : tie.Need-cast-vector
 cast-vector c = search needs
 
--- src/lib.rt:193:18
 mul-vector : tie.Need-mul-vector
 mul-vector c = search needs
 
--- src/lib.rt:193:60
 byte-at-requires-2 : tie.Need-byte-at-requires-2
 byte-at-requires-2 c κs = search needs
 
--- src/lib.rt:193:60
 cast-vector-2 : tie.Need-cast-vector-2
 cast-vector-2 c = search needs
 
--- src/lib.rt:193:18
 add-vector : tie.Need-add-vector
 add-vector c = search needs
 
--- src/lib.rt:194:49
 bare-rule-requires : tie.Need-bare-rule-requires
 bare-rule-requires c κs = search needs
 
--- src/lib.rt:189:1
 returns : tie.Need-returns
 unfolding serviceRule
 returns c = simp (c .bare-rule .ensures, c .before .before .before .byte-at2 .ensures, c .before .before .before .before .byte-at .ensures, c .before .before .before .before .before .routine-row .ensures, and-assoc, or-assoc, Bool·not-not)

@@ -1,15 +1,11 @@
 use mathlib.Core.Bool.{and-assoc, or-assoc, Bool·not-not}
-use borrow.Author.Tests.{lt-ltb, le-ltb, le-leb, lt-leb, eq-eqb, ne-eqb}
+use borrow.Author.Tests.{eq-eqb, ne-eqb}
 use Rattle.rule20.proofs.start_depth.Statement.{statement}
 use Rattle.rule20.proofs.start_depth.Tie as tie
-use Rattle.rule20.proofs.start_depth.Reads as reads
-use Rattle.rule20.proofs.start_depth.Lts as lts
 
--- src/lib.rt:116:1
 returns : tie.Need-returns
 returns c = simp (eq-eqb _ _ (c .if1 .taken), and-assoc, or-assoc, Bool·not-not)
 
--- src/lib.rt:116:1
 returns-2 : tie.Need-returns-2
 returns-2 c = simp (ne-eqb _ _ (c .if1 .left), and-assoc, or-assoc, Bool·not-not)
 

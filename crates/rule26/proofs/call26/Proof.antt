@@ -3,38 +3,25 @@ use mathlib.Core.Bool.{and-assoc, or-assoc, Bool·not-not}
 use borrow.Author.Needs.{needs}
 use Rattle.rule26.proofs.call26.Statement.{statement}
 use Rattle.rule26.proofs.call26.Tie as tie
-use Rattle.rule26.proofs.call26.Reads as reads
-use Rattle.rule26.proofs.call26.Lts as lts
-use Rattle.entries.proofs.entry_at.Reads as entry-at-reads
-use Rattle.rule26.proofs.claim_survives.Reads as claim-survives-reads
-use Rattle.rule26.proofs.claims_follow.Reads as claims-follow-reads
-use Rattle.rule26.proofs.compare_follows.Reads as compare-follows-reads
 
--- src/lib.rt:178:9
 entry-at-requires : tie.Need-entry-at-requires
 entry-at-requires c κs = search needs
 
--- src/lib.rt:179:9
 entry-at-requires-2 : tie.Need-entry-at-requires-2
 entry-at-requires-2 c κs = search needs
 
--- src/lib.rt:185:9
 claim-survives-requires : tie.Need-claim-survives-requires
 claim-survives-requires c κs = search needs
 
--- src/lib.rt:186:9
 claim-survives-requires-2 : tie.Need-claim-survives-requires-2
 claim-survives-requires-2 c κs = search needs
 
--- src/lib.rt:187:9
 claims-follow-requires : tie.Need-claims-follow-requires
 claims-follow-requires c κs = search needs
 
--- src/lib.rt:188:9
 compare-follows-requires : tie.Need-compare-follows-requires
 compare-follows-requires c κs = search needs
 
--- src/lib.rt:175:1
 returns : tie.Need-returns
 unfolding call26
 returns c = simp (c .before .compare-follows .ensures, c .before .before .claims-follow .ensures, c .before .before .before .claim-survives2 .ensures, c .before .before .before .before .claim-survives .ensures, c .before .before .before .before .before .entry-at2 .ensures, c .before .before .before .before .before .before .entry-at .ensures, and-assoc, or-assoc, Bool·not-not)

@@ -2,51 +2,37 @@ use mathlib.Core.Bool.{and-assoc, or-assoc, Bool·not-not}
 use borrow.Author.Needs.{needs}
 use Rattle.rule26.proofs.calls26.Statement.{statement}
 use Rattle.rule26.proofs.calls26.Tie as tie
-use Rattle.rule26.proofs.calls26.Reads as reads
-use Rattle.rule26.proofs.calls26.Lts as lts
-use Rattle.rule26.proofs.call26.Reads as call26-reads
 
--- src/lib.rt:208:29
 enum-told : tie.Need-enum-told
 enum-told c = search needs
 
--- src/lib.rt:209:20
 enum-known-f : tie.Need-enum-known-f
 enum-known-f c = search needs
 
--- src/lib.rt:209:27
 call26-requires : tie.Need-call26-requires
 call26-requires c κs = search needs
 
--- src/lib.rt:210:25
 enum-told-2 : tie.Need-enum-told-2
 enum-told-2 c = search needs
 
--- src/lib.rt:211:34
 enum-told-3 : tie.Need-enum-told-3
 enum-told-3 c = search needs
 
--- src/lib.rt:212:28
 enum-told-4 : tie.Need-enum-told-4
 enum-told-4 c = search needs
 
--- src/lib.rt:204:1
 returns : tie.Need-returns
 returns c = search needs
 
--- src/lib.rt:204:1
 returns-2 : tie.Need-returns-2
 returns-2 c = simp (c .call26 .ensures, c .before .before .f .given .1, and-assoc, or-assoc, Bool·not-not)
 
--- src/lib.rt:204:1
 returns-3 : tie.Need-returns-3
 returns-3 c = search needs
 
--- src/lib.rt:204:1
 returns-4 : tie.Need-returns-4
 returns-4 c = search needs
 
--- src/lib.rt:204:1
 returns-5 : tie.Need-returns-5
 returns-5 c = search needs
 

@@ -1,51 +1,34 @@
 use Rattle.claims.specs.declared.Change.{Change}
 use Rattle.claims.specs.declared.Values.{Values}
 use Rattle.rule26.specs.Follows.{follows-left, follows-stored}
-use Rattle.claims.specs.Values.{edgeOf, changeIn, valuesOf, allWithin}
-use Rattle.safety.specs.Rules.{present, feasible, changeOf, follows, claimFollows, claimsFollow, compareFollows, isUnchanged, edge26, plainEdge}
-use Rattle.safety.specs.Rules as rules
-use borrow.Author.Count.{below-more}
-use mathlib.Core.Bool.{true, false}
+use Rattle.claims.specs.Values.{edgeOf, changeIn, allWithin}
+use Rattle.safety.specs.Rules.{follows, plainEdge}
 use Rattle.certificate.specs.Layout.{certificateOf}
-use Rattle.base.specs.Formula.{Formula, Holds, decide, decide-yes, decide-no, decide-true, decide-false, decide-step}
-use Prim.Native.Nat.{ℕ, _+_, _-_, _*_, _≤_, _<_}
-use borrow.Author.Tests.{eq-eqb, ne-eqb, lt-ltb, le-ltb, le-leb, lt-leb, not-true, not-false}
-use native.Mathlib.Omega.{arith}
-use mathlib.Core.Path.{_≡_, refl, sym, ap, _∙_}
+use Rattle.base.specs.Formula.{decide}
+use Prim.Native.Nat.{_-_}
+use mathlib.Core.Path.{sym, ap, _∙_}
 use borrow.Author.Needs.{needs}
 use Rattle.rule26.proofs.change_follows.Statement.{statement}
 use Rattle.rule26.proofs.change_follows.Tie as tie
-use Rattle.rule26.proofs.change_follows.Reads as reads
-use Rattle.rule26.proofs.change_follows.Lts as lts
-use Rattle.claims.proofs.all_within.Reads as all-within-reads
-use Rattle.claims.proofs.values_left.Reads as values-left-reads
-use Rattle.rule26.proofs.value_follows.Reads as value-follows-reads
 
--- src/lib.rt:61:32
 enum-told : tie.Need-enum-told
 enum-told c = search needs
 
--- src/lib.rt:61:32
 values-left-requires : tie.Need-values-left-requires
 values-left-requires c κs = search needs
 
--- src/lib.rt:61:13
 all-within-requires : tie.Need-all-within-requires
 all-within-requires c κs = search needs
 
--- src/lib.rt:63:25
 enum-known-c : tie.Need-enum-known-c
 enum-known-c c = search needs
 
--- src/lib.rt:63:31
 value-follows-requires : tie.Need-value-follows-requires
 value-follows-requires c κs = search needs
 
--- src/lib.rt:56:1
 returns : tie.Need-returns
 returns c = let g = c .before .before .before .before .before .args in let C = certificateOf (g .cert .now) in let a = g .a .0 in let x = g .k .cell .0 in let l = g .k .low in let h = g .k .high in let e = edgeOf (g .e) in c .all-within .ensures ∙ ap (λ (s : Values). decide (allWithin s l h)) (c .before .values-left .ensures) ∙ follows-left C a x l h e ∙ ap (λ (t : Change). decide (follows C a e (changeIn C t) x l h)) (sym (c .before .before .enum-told .given .1))
 
--- src/lib.rt:56:1
 returns-2 : tie.Need-returns-2
 returns-2 c = let g = c .before .before .before .before .before .args in let C = certificateOf (g .cert .now) in let a = g .a .0 in let x = g .k .cell .0 in let l = g .k .low in let h = g .k .high in let e = edgeOf (g .e) in c .value-follows .ensures ∙ follows-stored C a x l h (plainEdge 0) e (c .before .before .c .given .0 .0) ∙ ap (λ (t : Change). decide (follows C a e (changeIn C t) x l h)) (sym (c .before .before .c .given .1))
 

@@ -3,25 +3,16 @@ use mathlib.Core.Bool.{and-assoc, or-assoc, Bool·not-not}
 use borrow.Author.Needs.{needs}
 use Rattle.rule26.proofs.claim_survives.Statement.{statement}
 use Rattle.rule26.proofs.claim_survives.Tie as tie
-use Rattle.rule26.proofs.claim_survives.Reads as reads
-use Rattle.rule26.proofs.claim_survives.Lts as lts
-use Rattle.claims.proofs.high.Reads as high-reads
-use Rattle.claims.proofs.low.Reads as low-reads
-use Rattle.entries.proofs.cell_row.Reads as cell-row-reads
 
--- src/lib.rt:165:9
 cell-row-requires : tie.Need-cell-row-requires
 cell-row-requires c κs = search needs
 
--- src/lib.rt:166:9
 low-requires : tie.Need-low-requires
 low-requires c κs = search needs
 
--- src/lib.rt:167:9
 high-requires : tie.Need-high-requires
 high-requires c κs = search needs
 
--- src/lib.rt:162:1
 returns : tie.Need-returns
 unfolding survives
 returns c = simp (c .before .before .before .before .before .before .before .high .ensures, c .before .before .before .before .before .before .before .before .low .ensures, c .before .before .before .before .before .before .before .before .before .cell-row .ensures, and-assoc, or-assoc, Bool·not-not)

@@ -2,24 +2,16 @@ use mathlib.Core.Bool.{and-assoc, or-assoc, Bool·not-not}
 use borrow.Author.Needs.{needs}
 use Rattle.rule26.proofs.claims_follow.Statement.{statement}
 use Rattle.rule26.proofs.claims_follow.Tie as tie
-use Rattle.rule26.proofs.claims_follow.Reads as reads
-use Rattle.rule26.proofs.claims_follow.Lts as lts
-use Rattle.entries.proofs.entry_at.Reads as entry-at-reads
-use Rattle.rule26.proofs.claim_follows.Reads as claim-follows-reads
 
--- src/lib.rt:80:9
 entry-at-requires : tie.Need-entry-at-requires
 entry-at-requires c κs = search needs
 
--- src/lib.rt:81:5
 claim-follows-requires : tie.Need-claim-follows-requires
 claim-follows-requires c κs = search needs
 
--- src/lib.rt:81:45
 claim-follows-requires-2 : tie.Need-claim-follows-requires-2
 claim-follows-requires-2 c κs = search needs
 
--- src/lib.rt:77:1
 returns : tie.Need-returns
 returns c = simp (c .claim-follows2 .ensures, c .before .claim-follows .ensures, c .before .before .entry-at .ensures, and-assoc, or-assoc, Bool·not-not)
 

@@ -3,20 +3,13 @@ use mathlib.Core.Bool.{and-assoc, or-assoc, Bool·not-not}
 use borrow.Author.Needs.{needs}
 use Rattle.rule26.proofs.compare_follows.Statement.{statement}
 use Rattle.rule26.proofs.compare_follows.Tie as tie
-use Rattle.rule26.proofs.compare_follows.Reads as reads
-use Rattle.rule26.proofs.compare_follows.Lts as lts
-use Rattle.entries.proofs.entry_at.Reads as entry-at-reads
-use Rattle.rule26.proofs.flags_follow.Reads as flags-follow-reads
 
--- src/lib.rt:115:9
 entry-at-requires : tie.Need-entry-at-requires
 entry-at-requires c κs = search needs
 
--- src/lib.rt:116:34
 flags-follow-requires : tie.Need-flags-follow-requires
 flags-follow-requires c κs = search needs
 
--- src/lib.rt:112:1
 returns : tie.Need-returns
 unfolding compareFollows
 returns c = simp (c .flags-follow .ensures, c .before .before .entry-at .ensures, and-assoc, or-assoc, Bool·not-not)

@@ -2,56 +2,40 @@ use mathlib.Core.Bool.{and-assoc, or-assoc, Bool·not-not}
 use borrow.Author.Needs.{needs}
 use Rattle.rule26.proofs.edges26.Statement.{statement}
 use Rattle.rule26.proofs.edges26.Tie as tie
-use Rattle.rule26.proofs.edges26.Reads as reads
-use Rattle.rule26.proofs.edges26.Lts as lts
-use Rattle.rule26.proofs.behind26.Reads as behind26-reads
-use Rattle.rule26.proofs.jump26.Reads as jump26-reads
 
--- src/lib.rt:196:20
 enum-known-f : tie.Need-enum-known-f
 enum-known-f c = search needs
 
--- src/lib.rt:196:31
 behind26-requires : tie.Need-behind26-requires
 behind26-requires c κs = search needs
 
--- src/lib.rt:196:64
 jump26-requires : tie.Need-jump26-requires
 jump26-requires c κs = search needs
 
--- src/lib.rt:197:26
 enum-told : tie.Need-enum-told
 enum-told c = search needs
 
--- src/lib.rt:198:25
 enum-told-2 : tie.Need-enum-told-2
 enum-told-2 c = search needs
 
--- src/lib.rt:199:34
 enum-told-3 : tie.Need-enum-told-3
 enum-told-3 c = search needs
 
--- src/lib.rt:200:28
 enum-told-4 : tie.Need-enum-told-4
 enum-told-4 c = search needs
 
--- src/lib.rt:192:1
 returns : tie.Need-returns
 returns c = simp (c .jump26 .ensures, c .before .behind26 .ensures, c .before .before .before .f .given .1, and-assoc, or-assoc, Bool·not-not)
 
--- src/lib.rt:192:1
 returns-2 : tie.Need-returns-2
 returns-2 c = simp (c .enum-told .given .1, and-assoc, or-assoc, Bool·not-not)
 
--- src/lib.rt:192:1
 returns-3 : tie.Need-returns-3
 returns-3 c = simp (c .enum-told2 .given .1, and-assoc, or-assoc, Bool·not-not)
 
--- src/lib.rt:192:1
 returns-4 : tie.Need-returns-4
 returns-4 c = simp (c .enum-told3 .given .1, and-assoc, or-assoc, Bool·not-not)
 
--- src/lib.rt:192:1
 returns-5 : tie.Need-returns-5
 returns-5 c = simp (c .enum-told4 .given .1, and-assoc, or-assoc, Bool·not-not)
 

@@ -2,44 +2,31 @@ use mathlib.Core.Bool.{and-assoc, or-assoc, Bool·not-not}
 use borrow.Author.Needs.{needs}
 use Rattle.rule26.proofs.flags_follow.Statement.{statement}
 use Rattle.rule26.proofs.flags_follow.Tie as tie
-use Rattle.rule26.proofs.flags_follow.Reads as reads
-use Rattle.rule26.proofs.flags_follow.Lts as lts
-use Rattle.entries.proofs.entry_at.Reads as entry-at-reads
-use Rattle.rule26.proofs.unchanged_by.Reads as unchanged-by-reads
 
--- src/lib.rt:99:9
 entry-at-requires : tie.Need-entry-at-requires
 entry-at-requires c κs = search needs
 
--- src/lib.rt:100:9
 entry-at-requires-2 : tie.Need-entry-at-requires-2
 entry-at-requires-2 c κs = search needs
 
--- src/lib.rt:103:17
 enum-told : tie.Need-enum-told
 enum-told c = search needs
 
--- src/lib.rt:104:17
 unchanged-by-requires : tie.Need-unchanged-by-requires
 unchanged-by-requires c κs = search needs
 
--- src/lib.rt:107:32
 enum-told-2 : tie.Need-enum-told-2
 enum-told-2 c = search needs
 
--- src/lib.rt:108:30
 enum-known-f : tie.Need-enum-known-f
 enum-known-f c = search needs
 
--- src/lib.rt:96:1
 returns : tie.Need-returns
 returns c = simp (c .before .before .unchanged-by .ensures, c .before .before .before .before .before .enum-told .given .1, c .before .before .before .before .before .before .before .entry-at2 .ensures, c .before .before .before .before .before .before .before .before .entry-at .ensures, and-assoc, or-assoc, Bool·not-not)
 
--- src/lib.rt:96:1
 returns-2 : tie.Need-returns-2
 returns-2 c = simp (c .enum-told2 .given .1, c .before .before .entry-at2 .ensures, c .before .before .before .entry-at .ensures, and-assoc, or-assoc, Bool·not-not)
 
--- src/lib.rt:96:1
 returns-3 : tie.Need-returns-3
 returns-3 c = simp (c .before .before .before .before .f .given .1, c .before .before .before .before .before .before .entry-at2 .ensures, c .before .before .before .before .before .before .before .entry-at .ensures, and-assoc, or-assoc, Bool·not-not)
 

@@ -2,19 +2,13 @@ use mathlib.Core.Bool.{and-assoc, or-assoc, Bool·not-not}
 use borrow.Author.Needs.{needs}
 use Rattle.rule26.proofs.one_less_follows.Statement.{statement}
 use Rattle.rule26.proofs.one_less_follows.Tie as tie
-use Rattle.rule26.proofs.one_less_follows.Reads as reads
-use Rattle.rule26.proofs.one_less_follows.Lts as lts
-use Rattle.claims.proofs.minus.Reads as minus-reads
 
--- src/lib.rt:34:29
 minus-requires : tie.Need-minus-requires
 minus-requires c κs = search needs
 
--- src/lib.rt:34:55
 minus-requires-2 : tie.Need-minus-requires-2
 minus-requires-2 c κs = search needs
 
--- src/lib.rt:31:1
 returns : tie.Need-returns
 returns c = simp (c .before .before .before .minus2 .ensures, c .before .before .before .before .before .minus .ensures, and-assoc, or-assoc, Bool·not-not)
 

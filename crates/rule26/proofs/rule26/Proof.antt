@@ -3,20 +3,13 @@ use mathlib.Core.Bool.{and-assoc, or-assoc, Bool·not-not}
 use borrow.Author.Needs.{needs}
 use Rattle.rule26.proofs.rule26.Statement.{statement}
 use Rattle.rule26.proofs.rule26.Tie as tie
-use Rattle.rule26.proofs.rule26.Reads as reads
-use Rattle.rule26.proofs.rule26.Lts as lts
-use Rattle.rule26.proofs.calls26.Reads as calls26-reads
-use Rattle.rule26.proofs.edges26.Reads as edges26-reads
 
--- src/lib.rt:221:5
 edges26-requires : tie.Need-edges26-requires
 edges26-requires c κs = search needs
 
--- src/lib.rt:221:39
 calls26-requires : tie.Need-calls26-requires
 calls26-requires c κs = search needs
 
--- src/lib.rt:217:1
 returns : tie.Need-returns
 unfolding rule26
 returns c = simp (c .calls26 .ensures, c .before .edges26 .ensures, and-assoc, or-assoc, Bool·not-not)

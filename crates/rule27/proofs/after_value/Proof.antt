@@ -1,98 +1,70 @@
 use borrow.Author.Needs.{needs}
 use Rattle.rule27.proofs.after_value.Statement.{statement}
 use Rattle.rule27.proofs.after_value.Tie as tie
-use Rattle.rule27.proofs.after_value.Reads as reads
-use Rattle.rule27.proofs.after_value.Lts as lts
-use Rattle.claims.proofs.bound_at.Reads as bound-at-reads
-use Rattle.claims.proofs.worst.Reads as worst-reads
-use Rattle.rule27.proofs.one_less_value.Reads as one-less-value-reads
-use Rattle.rule27.proofs.one_more_value.Reads as one-more-value-reads
 
--- src/lib.rt:56:27
 enum-told : tie.Need-enum-told
 enum-told c = search needs
 
--- src/lib.rt:57:22
 enum-known-f : tie.Need-enum-known-f
 enum-known-f c = search needs
 
--- src/lib.rt:57:31
 cast-result : tie.Need-cast-result
 cast-result c = search needs
 
--- src/lib.rt:57:42
 worst-requires : tie.Need-worst-requires
 worst-requires c κs = search needs
 
--- src/lib.rt:57:42
 cast-result-2 : tie.Need-cast-result-2
 cast-result-2 c = search needs
 
--- src/lib.rt:57:31
 add-result : tie.Need-add-result
 add-result c = search needs
 
--- src/lib.rt:58:22
 enum-known-f-2 : tie.Need-enum-known-f-2
 enum-known-f-2 c = search needs
 
--- src/lib.rt:58:31
 cast-result-3 : tie.Need-cast-result-3
 cast-result-3 c = search needs
 
--- src/lib.rt:58:42
 bound-at-requires : tie.Need-bound-at-requires
 bound-at-requires c κs = search needs
 
--- src/lib.rt:58:42
 cast-result-4 : tie.Need-cast-result-4
 cast-result-4 c = search needs
 
--- src/lib.rt:58:31
 add-result-2 : tie.Need-add-result-2
 add-result-2 c = search needs
 
--- src/lib.rt:59:24
 enum-known-f-3 : tie.Need-enum-known-f-3
 enum-known-f-3 c = search needs
 
--- src/lib.rt:59:30
 one-more-value-requires : tie.Need-one-more-value-requires
 one-more-value-requires c κs = search needs
 
--- src/lib.rt:59:30
 cast-result-5 : tie.Need-cast-result-5
 cast-result-5 c = search needs
 
--- src/lib.rt:60:24
 enum-known-f-4 : tie.Need-enum-known-f-4
 enum-known-f-4 c = search needs
 
--- src/lib.rt:60:30
 one-less-value-requires : tie.Need-one-less-value-requires
 one-less-value-requires c κs = search needs
 
--- src/lib.rt:60:30
 cast-result-6 : tie.Need-cast-result-6
 cast-result-6 c = search needs
 
--- src/lib.rt:52:1
 returns : tie.Need-returns
 returns c = search needs
 
--- src/lib.rt:52:1
 returns-2 : tie.Need-returns-2
 returns-2 c = simp (c .worst .ensures, c .before .before .f .given .1)
 
--- src/lib.rt:52:1
 returns-3 : tie.Need-returns-3
 returns-3 c = simp (c .bound-at .ensures, c .before .before .f2 .given .1)
 
--- src/lib.rt:52:1
 returns-4 : tie.Need-returns-4
 returns-4 c = simp (c .one-more-value .ensures, c .before .before .f3 .given .1)
 
--- src/lib.rt:52:1
 returns-5 : tie.Need-returns-5
 returns-5 c = simp (c .one-less-value .ensures, c .before .before .f4 .given .1)
 

@@ -2,51 +2,37 @@ use mathlib.Core.Bool.{and-assoc, or-assoc, Bool·not-not}
 use borrow.Author.Needs.{needs}
 use Rattle.rule27.proofs.calls27.Statement.{statement}
 use Rattle.rule27.proofs.calls27.Tie as tie
-use Rattle.rule27.proofs.calls27.Reads as reads
-use Rattle.rule27.proofs.calls27.Lts as lts
-use Rattle.rule27.proofs.call27.Reads as call27-reads
 
--- src/lib.rt:271:29
 enum-told : tie.Need-enum-told
 enum-told c = search needs
 
--- src/lib.rt:272:20
 enum-known-f : tie.Need-enum-known-f
 enum-known-f c = search needs
 
--- src/lib.rt:272:27
 call27-requires : tie.Need-call27-requires
 call27-requires c κs = search needs
 
--- src/lib.rt:273:25
 enum-told-2 : tie.Need-enum-told-2
 enum-told-2 c = search needs
 
--- src/lib.rt:274:34
 enum-told-3 : tie.Need-enum-told-3
 enum-told-3 c = search needs
 
--- src/lib.rt:275:28
 enum-told-4 : tie.Need-enum-told-4
 enum-told-4 c = search needs
 
--- src/lib.rt:267:1
 returns : tie.Need-returns
 returns c = search needs
 
--- src/lib.rt:267:1
 returns-2 : tie.Need-returns-2
 returns-2 c = simp (c .call27 .ensures, c .before .before .f .given .1, and-assoc, or-assoc, Bool·not-not)
 
--- src/lib.rt:267:1
 returns-3 : tie.Need-returns-3
 returns-3 c = search needs
 
--- src/lib.rt:267:1
 returns-4 : tie.Need-returns-4
 returns-4 c = search needs
 
--- src/lib.rt:267:1
 returns-5 : tie.Need-returns-5
 returns-5 c = search needs
 

@@ -2,56 +2,40 @@ use mathlib.Core.Bool.{and-assoc, or-assoc, Bool·not-not}
 use borrow.Author.Needs.{needs}
 use Rattle.rule27.proofs.edges27.Statement.{statement}
 use Rattle.rule27.proofs.edges27.Tie as tie
-use Rattle.rule27.proofs.edges27.Reads as reads
-use Rattle.rule27.proofs.edges27.Lts as lts
-use Rattle.rule27.proofs.behind27.Reads as behind27-reads
-use Rattle.rule27.proofs.jump27.Reads as jump27-reads
 
--- src/lib.rt:258:20
 enum-known-f : tie.Need-enum-known-f
 enum-known-f c = search needs
 
--- src/lib.rt:258:31
 behind27-requires : tie.Need-behind27-requires
 behind27-requires c κs = search needs
 
--- src/lib.rt:259:15
 jump27-requires : tie.Need-jump27-requires
 jump27-requires c κs = search needs
 
--- src/lib.rt:260:26
 enum-told : tie.Need-enum-told
 enum-told c = search needs
 
--- src/lib.rt:261:25
 enum-told-2 : tie.Need-enum-told-2
 enum-told-2 c = search needs
 
--- src/lib.rt:262:34
 enum-told-3 : tie.Need-enum-told-3
 enum-told-3 c = search needs
 
--- src/lib.rt:263:28
 enum-told-4 : tie.Need-enum-told-4
 enum-told-4 c = search needs
 
--- src/lib.rt:254:1
 returns : tie.Need-returns
 returns c = simp (c .jump27 .ensures, c .before .behind27 .ensures, c .before .before .before .f .given .1, and-assoc, or-assoc, Bool·not-not)
 
--- src/lib.rt:254:1
 returns-2 : tie.Need-returns-2
 returns-2 c = simp (c .enum-told .given .1, and-assoc, or-assoc, Bool·not-not)
 
--- src/lib.rt:254:1
 returns-3 : tie.Need-returns-3
 returns-3 c = simp (c .enum-told2 .given .1, and-assoc, or-assoc, Bool·not-not)
 
--- src/lib.rt:254:1
 returns-4 : tie.Need-returns-4
 returns-4 c = simp (c .enum-told3 .given .1, and-assoc, or-assoc, Bool·not-not)
 
--- src/lib.rt:254:1
 returns-5 : tie.Need-returns-5
 returns-5 c = simp (c .enum-told4 .given .1, and-assoc, or-assoc, Bool·not-not)
 

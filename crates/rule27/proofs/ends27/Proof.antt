@@ -2,55 +2,40 @@ use mathlib.Core.Bool.{and-assoc, or-assoc, Bool·not-not}
 use borrow.Author.Needs.{needs}
 use Rattle.rule27.proofs.ends27.Statement.{statement}
 use Rattle.rule27.proofs.ends27.Tie as tie
-use Rattle.rule27.proofs.ends27.Reads as reads
-use Rattle.rule27.proofs.ends27.Lts as lts
-use Rattle.rule27.proofs.return27.Reads as return27-reads
 
--- src/lib.rt:283:29
 enum-told : tie.Need-enum-told
 enum-told c = search needs
 
--- src/lib.rt:284:26
 enum-told-2 : tie.Need-enum-told-2
 enum-told-2 c = search needs
 
--- src/lib.rt:285:25
 enum-told-3 : tie.Need-enum-told-3
 enum-told-3 c = search needs
 
--- src/lib.rt:285:25
 return27-requires : tie.Need-return27-requires
 return27-requires c κs = search needs
 
--- src/lib.rt:286:34
 enum-told-4 : tie.Need-enum-told-4
 enum-told-4 c = search needs
 
--- src/lib.rt:286:34
 return27-requires-2 : tie.Need-return27-requires-2
 return27-requires-2 c κs = search needs
 
--- src/lib.rt:287:28
 enum-told-5 : tie.Need-enum-told-5
 enum-told-5 c = search needs
 
--- src/lib.rt:279:1
 returns : tie.Need-returns
 returns c = search needs
 
--- src/lib.rt:279:1
 returns-2 : tie.Need-returns-2
 returns-2 c = search needs
 
--- src/lib.rt:279:1
 returns-3 : tie.Need-returns-3
 returns-3 c = simp (c .return27 .ensures, c .before .enum-told3 .given .1, and-assoc, or-assoc, Bool·not-not)
 
--- src/lib.rt:279:1
 returns-4 : tie.Need-returns-4
 returns-4 c = simp (c .return272 .ensures, c .before .enum-told4 .given .1, and-assoc, or-assoc, Bool·not-not)
 
--- src/lib.rt:279:1
 returns-5 : tie.Need-returns-5
 returns-5 c = search needs
 

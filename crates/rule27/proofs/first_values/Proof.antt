@@ -1,20 +1,14 @@
-use borrow.Author.Tests.{lt-ltb, le-ltb, le-leb, lt-leb, eq-eqb, ne-eqb}
+use borrow.Author.Tests.{eq-eqb, ne-eqb}
 use borrow.Author.Needs.{needs}
 use Rattle.rule27.proofs.first_values.Statement.{statement}
 use Rattle.rule27.proofs.first_values.Tie as tie
-use Rattle.rule27.proofs.first_values.Reads as reads
-use Rattle.rule27.proofs.first_values.Lts as lts
-use Rattle.claims.proofs.values_left.Reads as values-left-reads
 
--- src/lib.rt:104:9
 returns : tie.Need-returns
 returns c = simp (eq-eqb _ _ (c .if1 .taken))
 
--- src/lib.rt:113:5
 values-left-requires : tie.Need-values-left-requires
 values-left-requires c κs = search needs
 
--- src/lib.rt:100:1
 returns-2 : tie.Need-returns-2
 returns-2 c = simp (c .values-left .ensures, ne-eqb _ _ (c .before .if1 .left))
 

@@ -1,29 +1,20 @@
-use borrow.Author.Tests.{lt-ltb, le-ltb, le-leb, lt-leb, eq-eqb, ne-eqb}
+use borrow.Author.Tests.{lt-ltb, le-ltb, le-leb, lt-leb}
 use borrow.Author.Needs.{needs}
 use Rattle.rule27.proofs.one_less_value.Statement.{statement}
 use Rattle.rule27.proofs.one_less_value.Tie as tie
-use Rattle.rule27.proofs.one_less_value.Reads as reads
-use Rattle.rule27.proofs.one_less_value.Lts as lts
-use Rattle.claims.proofs.bound_at.Reads as bound-at-reads
-use Rattle.claims.proofs.worst.Reads as worst-reads
 
--- src/lib.rt:46:36
 sub-bound-at : tie.Need-sub-bound-at
 sub-bound-at c = search needs
 
--- src/lib.rt:46:9
 bound-at-requires : tie.Need-bound-at-requires
 bound-at-requires c κs = search needs
 
--- src/lib.rt:46:9
 returns : tie.Need-returns
 returns c = simp (c .bound-at .ensures, lt-ltb _ _ (c .before .if1 .taken), lt-leb _ _ (c .before .if1 .taken))
 
--- src/lib.rt:48:5
 worst-requires : tie.Need-worst-requires
 worst-requires c κs = search needs
 
--- src/lib.rt:42:1
 returns-2 : tie.Need-returns-2
 returns-2 c = simp (c .worst .ensures, le-leb _ _ (c .before .if1 .left), le-ltb _ _ (c .before .if1 .left))
 

@@ -3,30 +3,19 @@ use mathlib.Core.Bool.{and-assoc, or-assoc, Bool·not-not}
 use borrow.Author.Needs.{needs}
 use Rattle.rule27.proofs.rule27.Statement.{statement}
 use Rattle.rule27.proofs.rule27.Tie as tie
-use Rattle.rule27.proofs.rule27.Reads as reads
-use Rattle.rule27.proofs.rule27.Lts as lts
-use Rattle.rule27.proofs.calls27.Reads as calls27-reads
-use Rattle.rule27.proofs.edges27.Reads as edges27-reads
-use Rattle.rule27.proofs.ends27.Reads as ends27-reads
-use Rattle.rule27.proofs.row_rule.Reads as row-rule-reads
 
--- src/lib.rt:296:16
 ends27-requires : tie.Need-ends27-requires
 ends27-requires c κs = search needs
 
--- src/lib.rt:296:46
 row-rule-requires : tie.Need-row-rule-requires
 row-rule-requires c κs = search needs
 
--- src/lib.rt:297:5
 edges27-requires : tie.Need-edges27-requires
 edges27-requires c κs = search needs
 
--- src/lib.rt:297:46
 calls27-requires : tie.Need-calls27-requires
 calls27-requires c κs = search needs
 
--- src/lib.rt:292:1
 returns : tie.Need-returns
 unfolding rule27
 returns c = simp (c .calls27 .ensures, c .before .edges27 .ensures, c .before .before .row-rule .ensures, c .before .before .before .ends27 .ensures, and-assoc, or-assoc, Bool·not-not)

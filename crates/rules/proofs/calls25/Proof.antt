@@ -2,51 +2,37 @@ use mathlib.Core.Bool.{and-assoc, or-assoc, Bool·not-not}
 use borrow.Author.Needs.{needs}
 use Rattle.rules.proofs.calls25.Statement.{statement}
 use Rattle.rules.proofs.calls25.Tie as tie
-use Rattle.rules.proofs.calls25.Reads as reads
-use Rattle.rules.proofs.calls25.Lts as lts
-use Rattle.rules.proofs.call_depth.Reads as call-depth-reads
 
--- src/lib.rt:356:29
 enum-told : tie.Need-enum-told
 enum-told c = search needs
 
--- src/lib.rt:357:20
 enum-known-f : tie.Need-enum-known-f
 enum-known-f c = search needs
 
--- src/lib.rt:357:27
 call-depth-requires : tie.Need-call-depth-requires
 call-depth-requires c κs = search needs
 
--- src/lib.rt:358:25
 enum-told-2 : tie.Need-enum-told-2
 enum-told-2 c = search needs
 
--- src/lib.rt:359:34
 enum-told-3 : tie.Need-enum-told-3
 enum-told-3 c = search needs
 
--- src/lib.rt:360:28
 enum-told-4 : tie.Need-enum-told-4
 enum-told-4 c = search needs
 
--- src/lib.rt:352:1
 returns : tie.Need-returns
 returns c = search needs
 
--- src/lib.rt:352:1
 returns-2 : tie.Need-returns-2
 returns-2 c = simp (c .call-depth .ensures, c .before .before .f .given .1, and-assoc, or-assoc, Bool·not-not)
 
--- src/lib.rt:352:1
 returns-3 : tie.Need-returns-3
 returns-3 c = search needs
 
--- src/lib.rt:352:1
 returns-4 : tie.Need-returns-4
 returns-4 c = search needs
 
--- src/lib.rt:352:1
 returns-5 : tie.Need-returns-5
 returns-5 c = search needs
 

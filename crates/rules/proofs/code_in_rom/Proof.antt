@@ -2,35 +2,25 @@ use mathlib.Core.Bool.{and-assoc, or-assoc, Bool·not-not}
 use borrow.Author.Needs.{needs}
 use Rattle.rules.proofs.code_in_rom.Statement.{statement}
 use Rattle.rules.proofs.code_in_rom.Tie as tie
-use Rattle.rules.proofs.code_in_rom.Reads as reads
-use Rattle.rules.proofs.code_in_rom.Lts as lts
-use Rattle.rules.proofs.pair_in_rom.Reads as pair-in-rom-reads
 
--- src/lib.rt:261:32
 enum-told : tie.Need-enum-told
 enum-told c = search needs
 
--- src/lib.rt:262:28
 enum-known-c : tie.Need-enum-known-c
 enum-known-c c = search needs
 
--- src/lib.rt:263:26
 enum-known-c-2 : tie.Need-enum-known-c-2
 enum-known-c-2 c = search needs
 
--- src/lib.rt:263:42
 pair-in-rom-requires : tie.Need-pair-in-rom-requires
 pair-in-rom-requires c κs = search needs
 
--- src/lib.rt:257:1
 returns : tie.Need-returns
 returns c = search needs
 
--- src/lib.rt:257:1
 returns-2 : tie.Need-returns-2
 returns-2 c = simp (c .before .before .c .given .1, and-assoc, or-assoc, Bool·not-not)
 
--- src/lib.rt:257:1
 returns-3 : tie.Need-returns-3
 returns-3 c = simp (c .pair-in-rom .ensures, c .before .before .c2 .given .1, and-assoc, or-assoc, Bool·not-not)
 

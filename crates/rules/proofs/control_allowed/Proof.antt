@@ -2,47 +2,34 @@ use mathlib.Core.Bool.{and-assoc, or-assoc, Bool·not-not}
 use borrow.Author.Needs.{needs}
 use Rattle.rules.proofs.control_allowed.Statement.{statement}
 use Rattle.rules.proofs.control_allowed.Tie as tie
-use Rattle.rules.proofs.control_allowed.Reads as reads
-use Rattle.rules.proofs.control_allowed.Lts as lts
-use Rattle.rules.proofs.side_at.Reads as side-at-reads
 
--- src/lib.rt:34:29
 enum-told : tie.Need-enum-told
 enum-told c = search needs
 
--- src/lib.rt:35:28
 enum-told-2 : tie.Need-enum-told-2
 enum-told-2 c = search needs
 
--- src/lib.rt:35:28
 side-at-requires : tie.Need-side-at-requires
 side-at-requires c κs = search needs
 
--- src/lib.rt:36:29
 enum-told-3 : tie.Need-enum-told-3
 enum-told-3 c = search needs
 
--- src/lib.rt:37:26
 enum-told-4 : tie.Need-enum-told-4
 enum-told-4 c = search needs
 
--- src/lib.rt:37:26
 side-at-requires-2 : tie.Need-side-at-requires-2
 side-at-requires-2 c κs = search needs
 
--- src/lib.rt:30:1
 returns : tie.Need-returns
 returns c = search needs
 
--- src/lib.rt:30:1
 returns-2 : tie.Need-returns-2
 returns-2 c = simp (c .side-at .ensures, c .before .enum-told2 .given .1, and-assoc, or-assoc, Bool·not-not)
 
--- src/lib.rt:30:1
 returns-3 : tie.Need-returns-3
 returns-3 c = search needs
 
--- src/lib.rt:30:1
 returns-4 : tie.Need-returns-4
 returns-4 c = simp (c .side-at2 .ensures, c .before .enum-told4 .given .1, and-assoc, or-assoc, Bool·not-not)
 

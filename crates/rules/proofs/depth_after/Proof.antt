@@ -1,51 +1,37 @@
 use borrow.Author.Needs.{needs}
 use Rattle.rules.proofs.depth_after.Statement.{statement}
 use Rattle.rules.proofs.depth_after.Tie as tie
-use Rattle.rules.proofs.depth_after.Reads as reads
-use Rattle.rules.proofs.depth_after.Lts as lts
-use Rattle.claims.proofs.minus.Reads as minus-reads
 
--- src/lib.rt:291:30
 enum-told : tie.Need-enum-told
 enum-told c = search needs
 
--- src/lib.rt:292:30
 enum-told-2 : tie.Need-enum-told-2
 enum-told-2 c = search needs
 
--- src/lib.rt:292:30
 add-result : tie.Need-add-result
 add-result c = search needs
 
--- src/lib.rt:293:29
 enum-told-3 : tie.Need-enum-told-3
 enum-told-3 c = search needs
 
--- src/lib.rt:293:29
 minus-requires : tie.Need-minus-requires
 minus-requires c κs = search needs
 
--- src/lib.rt:293:29
 cast-result : tie.Need-cast-result
 cast-result c = search needs
 
--- src/lib.rt:294:33
 enum-told-4 : tie.Need-enum-told-4
 enum-told-4 c = search needs
 
--- src/lib.rt:287:1
 returns : tie.Need-returns
 returns c = search needs
 
--- src/lib.rt:287:1
 returns-2 : tie.Need-returns-2
 returns-2 c = simp (c .enum-told2 .given .1)
 
--- src/lib.rt:287:1
 returns-3 : tie.Need-returns-3
 returns-3 c = simp (c .minus .ensures, c .before .enum-told3 .given .1)
 
--- src/lib.rt:287:1
 returns-4 : tie.Need-returns-4
 returns-4 c = search needs
 

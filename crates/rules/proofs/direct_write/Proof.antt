@@ -2,69 +2,49 @@ use mathlib.Core.Bool.{and-assoc, or-assoc, Bool·not-not}
 use borrow.Author.Needs.{needs}
 use Rattle.rules.proofs.direct_write.Statement.{statement}
 use Rattle.rules.proofs.direct_write.Tie as tie
-use Rattle.rules.proofs.direct_write.Reads as reads
-use Rattle.rules.proofs.direct_write.Lts as lts
-use Rattle.chip.proofs.mapped.Reads as mapped-reads
-use Rattle.rules.proofs.second_half.Reads as second-half-reads
-use Rattle.rules.proofs.writable.Reads as writable-reads
 
--- src/lib.rt:149:27
 enum-told : tie.Need-enum-told
 enum-told c = search needs
 
--- src/lib.rt:150:25
 enum-known-w : tie.Need-enum-known-w
 enum-known-w c = search needs
 
--- src/lib.rt:150:34
 mapped-requires : tie.Need-mapped-requires
 mapped-requires c κs = search needs
 
--- src/lib.rt:150:52
 writable-requires : tie.Need-writable-requires
 writable-requires c κs = search needs
 
--- src/lib.rt:151:33
 enum-told-2 : tie.Need-enum-told-2
 enum-told-2 c = search needs
 
--- src/lib.rt:152:32
 enum-known-w-2 : tie.Need-enum-known-w-2
 enum-known-w-2 c = search needs
 
--- src/lib.rt:152:41
 mapped-requires-2 : tie.Need-mapped-requires-2
 mapped-requires-2 c κs = search needs
 
--- src/lib.rt:153:16
 writable-requires-2 : tie.Need-writable-requires-2
 writable-requires-2 c κs = search needs
 
--- src/lib.rt:154:20
 mapped-requires-3 : tie.Need-mapped-requires-3
 mapped-requires-3 c κs = search needs
 
--- src/lib.rt:154:39
 writable-requires-3 : tie.Need-writable-requires-3
 writable-requires-3 c κs = search needs
 
--- src/lib.rt:154:62
 second-half-requires : tie.Need-second-half-requires
 second-half-requires c κs = search needs
 
--- src/lib.rt:145:1
 returns : tie.Need-returns
 returns c = search needs
 
--- src/lib.rt:145:1
 returns-2 : tie.Need-returns-2
 returns-2 c = simp (c .writable .ensures, c .before .mapped .ensures, c .before .before .before .w .given .1, and-assoc, or-assoc, Bool·not-not)
 
--- src/lib.rt:145:1
 returns-3 : tie.Need-returns-3
 returns-3 c = search needs
 
--- src/lib.rt:145:1
 returns-4 : tie.Need-returns-4
 returns-4 c = simp (c .second-half .ensures, c .before .writable3 .ensures, c .before .before .mapped3 .ensures, c .before .before .before .writable2 .ensures, c .before .before .before .before .mapped2 .ensures, c .before .before .before .before .before .before .w2 .given .1, and-assoc, or-assoc, Bool·not-not)
 

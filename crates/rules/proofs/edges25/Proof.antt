@@ -2,72 +2,52 @@ use mathlib.Core.Bool.{and-assoc, or-assoc, Bool·not-not}
 use borrow.Author.Needs.{needs}
 use Rattle.rules.proofs.edges25.Statement.{statement}
 use Rattle.rules.proofs.edges25.Tie as tie
-use Rattle.rules.proofs.edges25.Reads as reads
-use Rattle.rules.proofs.edges25.Lts as lts
-use Rattle.entries.proofs.entry_at.Reads as entry-at-reads
-use Rattle.rules.proofs.depth_after.Reads as depth-after-reads
 
--- src/lib.rt:347:9
 entry-at-requires : tie.Need-entry-at-requires
 entry-at-requires c κs = search needs
 
--- src/lib.rt:348:9
 depth-after-requires : tie.Need-depth-after-requires
 depth-after-requires c κs = search needs
 
--- src/lib.rt:349:9
 entry-at-requires-2 : tie.Need-entry-at-requires-2
 entry-at-requires-2 c κs = search needs
 
--- src/lib.rt:351:20
 enum-known-f : tie.Need-enum-known-f
 enum-known-f c = search needs
 
--- src/lib.rt:352:17
 entry-at-requires-3 : tie.Need-entry-at-requires-3
 entry-at-requires-3 c κs = search needs
 
--- src/lib.rt:353:27
 cast-result : tie.Need-cast-result
 cast-result c = search needs
 
--- src/lib.rt:353:74
 cast-result-2 : tie.Need-cast-result-2
 cast-result-2 c = search needs
 
--- src/lib.rt:355:26
 enum-told : tie.Need-enum-told
 enum-told c = search needs
 
--- src/lib.rt:356:25
 enum-told-2 : tie.Need-enum-told-2
 enum-told-2 c = search needs
 
--- src/lib.rt:357:34
 enum-told-3 : tie.Need-enum-told-3
 enum-told-3 c = search needs
 
--- src/lib.rt:358:28
 enum-told-4 : tie.Need-enum-told-4
 enum-told-4 c = search needs
 
--- src/lib.rt:344:1
 returns : tie.Need-returns
 returns c = simp (c .before .before .entry-at3 .ensures, c .before .before .before .before .f .given .1, c .before .before .before .before .before .before .entry-at2 .ensures, c .before .before .before .before .before .before .before .depth-after .ensures, c .before .before .before .before .before .before .before .before .entry-at .ensures, and-assoc, or-assoc, Bool·not-not)
 
--- src/lib.rt:344:1
 returns-2 : tie.Need-returns-2
 returns-2 c = simp (c .enum-told .given .1, c .before .before .entry-at2 .ensures, c .before .before .before .depth-after .ensures, c .before .before .before .before .entry-at .ensures, and-assoc, or-assoc, Bool·not-not)
 
--- src/lib.rt:344:1
 returns-3 : tie.Need-returns-3
 returns-3 c = simp (c .enum-told2 .given .1, c .before .before .entry-at2 .ensures, c .before .before .before .depth-after .ensures, c .before .before .before .before .entry-at .ensures, and-assoc, or-assoc, Bool·not-not)
 
--- src/lib.rt:344:1
 returns-4 : tie.Need-returns-4
 returns-4 c = simp (c .enum-told3 .given .1, c .before .before .entry-at2 .ensures, c .before .before .before .depth-after .ensures, c .before .before .before .before .entry-at .ensures, and-assoc, or-assoc, Bool·not-not)
 
--- src/lib.rt:344:1
 returns-5 : tie.Need-returns-5
 returns-5 c = simp (c .enum-told4 .given .1, c .before .before .entry-at2 .ensures, c .before .before .before .depth-after .ensures, c .before .before .before .before .entry-at .ensures, and-assoc, or-assoc, Bool·not-not)
 

@@ -2,29 +2,19 @@ use mathlib.Core.Bool.{and-assoc, or-assoc, Bool·not-not}
 use borrow.Author.Needs.{needs}
 use Rattle.rules.proofs.in_table.Statement.{statement}
 use Rattle.rules.proofs.in_table.Tie as tie
-use Rattle.rules.proofs.in_table.Reads as reads
-use Rattle.rules.proofs.in_table.Lts as lts
-use Rattle.chip.proofs.mapped.Reads as mapped-reads
-use Rattle.entries.proofs.cell_row.Reads as cell-row-reads
-use Rattle.rules.proofs.writable.Reads as writable-reads
 
--- src/lib.rt:183:9
 cell-row-requires : tie.Need-cell-row-requires
 cell-row-requires c κs = search needs
 
--- src/lib.rt:184:9
 cell-row-requires-2 : tie.Need-cell-row-requires-2
 cell-row-requires-2 c κs = search needs
 
--- src/lib.rt:185:18
 mapped-requires : tie.Need-mapped-requires
 mapped-requires c κs = search needs
 
--- src/lib.rt:185:36
 writable-requires : tie.Need-writable-requires
 writable-requires c κs = search needs
 
--- src/lib.rt:180:1
 returns : tie.Need-returns
 returns c = simp (c .before .before .writable .ensures, c .before .before .before .mapped .ensures, c .before .before .before .before .cell-row2 .ensures, c .before .before .before .before .before .cell-row .ensures, and-assoc, or-assoc, Bool·not-not)
 

@@ -3,20 +3,13 @@ use mathlib.Core.Bool.{and-assoc, or-assoc, Bool·not-not}
 use borrow.Author.Needs.{needs}
 use Rattle.rules.proofs.rule22.Statement.{statement}
 use Rattle.rules.proofs.rule22.Tie as tie
-use Rattle.rules.proofs.rule22.Reads as reads
-use Rattle.rules.proofs.rule22.Lts as lts
-use Rattle.rules.proofs.control_allowed.Reads as control-allowed-reads
-use Rattle.rules.proofs.flow_allowed.Reads as flow-allowed-reads
 
--- src/lib.rt:61:5
 control-allowed-requires : tie.Need-control-allowed-requires
 control-allowed-requires c κs = search needs
 
--- src/lib.rt:61:41
 flow-allowed-requires : tie.Need-flow-allowed-requires
 flow-allowed-requires c κs = search needs
 
--- src/lib.rt:56:1
 returns : tie.Need-returns
 unfolding rule22
 returns c = simp (c .flow-allowed .ensures, c .before .control-allowed .ensures, and-assoc, or-assoc, Bool·not-not)

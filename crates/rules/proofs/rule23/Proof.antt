@@ -3,29 +3,19 @@ use mathlib.Core.Bool.{and-assoc, or-assoc, Bool·not-not}
 use borrow.Author.Needs.{needs}
 use Rattle.rules.proofs.rule23.Statement.{statement}
 use Rattle.rules.proofs.rule23.Tie as tie
-use Rattle.rules.proofs.rule23.Reads as reads
-use Rattle.rules.proofs.rule23.Lts as lts
-use Rattle.rules.proofs.direct_read.Reads as direct-read-reads
-use Rattle.rules.proofs.direct_write.Reads as direct-write-reads
-use Rattle.rules.proofs.stack_load.Reads as stack-load-reads
 
--- src/lib.rt:182:19
 direct-write-requires : tie.Need-direct-write-requires
 direct-write-requires c κs = search needs
 
--- src/lib.rt:182:50
 stack-load-requires : tie.Need-stack-load-requires
 stack-load-requires c κs = search needs
 
--- src/lib.rt:183:5
 direct-read-requires : tie.Need-direct-read-requires
 direct-read-requires c κs = search needs
 
--- src/lib.rt:183:33
 direct-read-requires-2 : tie.Need-direct-read-requires-2
 direct-read-requires-2 c κs = search needs
 
--- src/lib.rt:175:1
 returns : tie.Need-returns
 unfolding rule23
 returns c = simp (c .direct-read2 .ensures, c .before .direct-read .ensures, c .before .before .stack-load .ensures, c .before .before .before .direct-write .ensures, and-assoc, or-assoc, Bool·not-not)

@@ -2,20 +2,13 @@ use mathlib.Core.Bool.{and-assoc, or-assoc, Bool·not-not}
 use borrow.Author.Needs.{needs}
 use Rattle.rules.proofs.side_at.Statement.{statement}
 use Rattle.rules.proofs.side_at.Tie as tie
-use Rattle.rules.proofs.side_at.Reads as reads
-use Rattle.rules.proofs.side_at.Lts as lts
-use Rattle.entries.proofs.entry_at.Reads as entry-at-reads
-use Rattle.entries.proofs.routine_row.Reads as routine-row-reads
 
--- src/lib.rt:24:9
 entry-at-requires : tie.Need-entry-at-requires
 entry-at-requires c κs = search needs
 
--- src/lib.rt:25:9
 routine-row-requires : tie.Need-routine-row-requires
 routine-row-requires c κs = search needs
 
--- src/lib.rt:21:1
 returns : tie.Need-returns
 returns c = simp (c .routine-row .ensures, c .before .entry-at .ensures, and-assoc, or-assoc, Bool·not-not)
 

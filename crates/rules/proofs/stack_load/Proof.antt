@@ -2,48 +2,34 @@ use mathlib.Core.Bool.{and-assoc, or-assoc, Bool·not-not}
 use borrow.Author.Needs.{needs}
 use Rattle.rules.proofs.stack_load.Statement.{statement}
 use Rattle.rules.proofs.stack_load.Tie as tie
-use Rattle.rules.proofs.stack_load.Reads as reads
-use Rattle.rules.proofs.stack_load.Lts as lts
-use Rattle.entries.proofs.entry_at.Reads as entry-at-reads
-use Rattle.entries.proofs.stack_top.Reads as stack-top-reads
 
--- src/lib.rt:162:9
 entry-at-requires : tie.Need-entry-at-requires
 entry-at-requires c κs = search needs
 
--- src/lib.rt:164:30
 enum-told : tie.Need-enum-told
 enum-told c = search needs
 
--- src/lib.rt:165:30
 enum-told-2 : tie.Need-enum-told-2
 enum-told-2 c = search needs
 
--- src/lib.rt:166:29
 enum-told-3 : tie.Need-enum-told-3
 enum-told-3 c = search needs
 
--- src/lib.rt:167:27
 enum-known-k : tie.Need-enum-known-k
 enum-known-k c = search needs
 
--- src/lib.rt:167:58
 stack-top-requires : tie.Need-stack-top-requires
 stack-top-requires c κs = search needs
 
--- src/lib.rt:159:1
 returns : tie.Need-returns
 returns c = simp (c .enum-told .given .1, c .before .before .entry-at .ensures, and-assoc, or-assoc, Bool·not-not)
 
--- src/lib.rt:159:1
 returns-2 : tie.Need-returns-2
 returns-2 c = simp (c .enum-told2 .given .1, c .before .before .entry-at .ensures, and-assoc, or-assoc, Bool·not-not)
 
--- src/lib.rt:159:1
 returns-3 : tie.Need-returns-3
 returns-3 c = simp (c .enum-told3 .given .1, c .before .before .entry-at .ensures, and-assoc, or-assoc, Bool·not-not)
 
--- src/lib.rt:159:1
 returns-4 : tie.Need-returns-4
 returns-4 c = simp (c .stack-top .ensures, c .before .before .before .k .given .1, c .before .before .before .before .before .entry-at .ensures, and-assoc, or-assoc, Bool·not-not)
 

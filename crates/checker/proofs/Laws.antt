@@ -1,0 +1,69 @@
+-- The ways of the verdict: a rule that holds or is broken, an address that goes on or stops, the tests before the scan.
+-- Assumes nothing.
+use Prim.Native.Nat.{ℕ, suc, _+_, _-_, _<_}
+use mathlib.Core.Path.{_≡_, refl, ap, _∙_}
+use mathlib.Core.Bool.{true, false}
+use mathlib.Core.List.{List}
+use native.Mathlib.Omega.{arith}
+use lib.ListN.{length}
+use borrow.Author.Tests.{eq-eqb, ne-eqb}
+use Rattle.base.specs.Addresses.{romAddr}
+use Rattle.base.specs.Formula.{decide}
+use Rattle.certificate.specs.declared.Summary.{Summary}
+use Rattle.certificate.specs.declared.Verdict.the-variants.{Refused}
+use Rattle.certificate.specs.Layout.{Certificate, certificateOf, certificateLength}
+use Rattle.safety.specs.Rules.{romEnd, rule20, rule21, rule22, rule23, rule24, rule25, rule26, rule27}
+use Rattle.safety.specs.Verdicts.{firstBroken, numberAt, scan, verdictOn, verdictOf}
+use Rattle.checker.specs.declared.Holding.{Holding}
+use Rattle.checker.specs.Located.{tested, rulesOn}
+
+turn : (a : ℕ) → a < 4096 → 4096 - a ≡ suc (4096 - (a + 1))
+turn a h = omega arith
+
+module _ (C : Certificate) (image : List ℕ) (a : ℕ) (h : a < 4096) where
+  pub scan-on : numberAt C image a ≡ 0 → scan C image (4096 - a) a ≡ scan C image (4096 - (a + 1)) (a + 1)
+  unfolding scan
+  scan-on z = ap (λ (n : ℕ). scan C image n a) (turn a h) ∙ rw (scan, eq-eqb (numberAt C image a) 0 z)
+
+  pub scan-stop : (numberAt C image a ≡ 0 → ⊥) → scan C image (4096 - a) a ≡ Refused (numberAt C image a) (romAddr a)
+  unfolding scan
+  scan-stop z = ap (λ (n : ℕ). scan C image n a) (turn a h) ∙ rw (scan, ne-eqb (numberAt C image a) 0 z)
+
+module _ (image cert : List ℕ) where
+  pub image-length : (length image ≡ romEnd → ⊥) → Refused 7 (romAddr 0) ≡ verdictOf image cert
+  unfolding verdictOf
+  image-length n = rw (verdictOf, ne-eqb (length image) romEnd n)
+
+  pub certificate-length : length image ≡ romEnd → (length cert ≡ certificateLength → ⊥)
+      → Refused 7 (romAddr 0) ≡ verdictOf image cert
+  unfolding verdictOf
+  certificate-length e n = rw (verdictOf, eq-eqb (length image) romEnd e, ne-eqb (length cert) certificateLength n)
+
+  module _ (e : length image ≡ romEnd) (k : length cert ≡ certificateLength) where
+    pub layout-broken : decide (rule20 (certificateOf cert) image) ≡ false → Refused 20 (romAddr 0) ≡ verdictOf image cert
+    unfolding verdictOf verdictOn
+    layout-broken d =
+        rw (verdictOf, eq-eqb (length image) romEnd e, eq-eqb (length cert) certificateLength k, verdictOn, d)
+
+    pub layout-holds : decide (rule20 (certificateOf cert) image) ≡ true
+        → scan (certificateOf cert) image romEnd 0 ≡ verdictOf image cert
+    unfolding verdictOf verdictOn
+    layout-holds d =
+        rw (verdictOf, eq-eqb (length image) romEnd e, eq-eqb (length cert) certificateLength k, verdictOn, d)
+
+-- the rules' values in place of the rules
+abbrev pub holdingOf : Certificate → ℕ → Summary → ℕ → ℕ → Holding
+holdingOf C a S next cost = record {
+  rule21 = decide (rule21 C a S next);
+  rule22 = decide (rule22 C a S);
+  rule23 = decide (rule23 C a S);
+  rule24 = decide (rule24 C a S);
+  rule25 = decide (rule25 C a S next);
+  rule26 = decide (rule26 C a S next);
+  rule27 = decide (rule27 C a S cost next);
+}
+
+pub first-by-value : (C : Certificate) (a : ℕ) (S : Summary) (next cost : ℕ)
+    → firstBroken (tested (holdingOf C a S next cost)) ≡ firstBroken (rulesOn C a S next cost)
+unfolding tested rulesOn firstBroken
+first-by-value C a S next cost = refl

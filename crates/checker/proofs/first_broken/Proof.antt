@@ -1,0 +1,52 @@
+use Rattle.checker.specs.declared.Holding.{Holding}
+use Rattle.checker.proofs.Laws.{first-by-value}
+use Rattle.safety.specs.Rules.{rule21, rule22, rule23, rule24, rule25, rule26, rule27}
+use Rattle.safety.specs.Verdicts.{firstBroken}
+use Rattle.checker.specs.Located.{tested}
+use Rattle.certificate.specs.Layout.{certificateOf}
+use Prim.Native.Nat.{_-_}
+use mathlib.Core.Path.{ap, _∙_}
+use borrow.Author.Needs.{needs}
+use Rattle.checker.proofs.first_broken.Statement.{statement}
+use Rattle.checker.proofs.first_broken.Tie as tie
+
+rule21-requires : tie.Need-rule21-requires
+rule21-requires c κs = search needs
+
+rule22-requires : tie.Need-rule22-requires
+rule22-requires c κs = search needs
+
+rule23-requires : tie.Need-rule23-requires
+rule23-requires c κs = search needs
+
+rule24-requires : tie.Need-rule24-requires
+rule24-requires c κs = search needs
+
+rule25-requires : tie.Need-rule25-requires
+rule25-requires c κs = search needs
+
+rule26-requires : tie.Need-rule26-requires
+rule26-requires c κs = search needs
+
+rule27-requires : tie.Need-rule27-requires
+rule27-requires c κs = search needs
+
+lowest-requires : tie.Need-lowest-requires
+lowest-requires c κs = search needs
+
+returns : tie.Need-returns
+returns c = let g = c .before .before .before .before .before .before .before .before .before .args in let C = certificateOf (g .cert .now) in c .lowest .ensures ∙ ap (λ (h : Holding). firstBroken (tested h)) (simp (c .before .before .before .before .before .before .before .rule21 .ensures, c .before .before .before .before .before .before .rule22 .ensures, c .before .before .before .before .before .rule23 .ensures, c .before .before .before .before .rule24 .ensures, c .before .before .before .rule25 .ensures, c .before .before .rule26 .ensures, c .before .rule27 .ensures)) ∙ first-by-value C (g .a .0) (g .s) (g .next .0) (g .cost)
+
+pub first-broken-spec : {M : Type 1} → statement M
+first-broken-spec =
+    tie.close
+    (tie.spec
+    rule21-requires
+    rule22-requires
+    rule23-requires
+    rule24-requires
+    rule25-requires
+    rule26-requires
+    rule27-requires
+    lowest-requires
+    returns)

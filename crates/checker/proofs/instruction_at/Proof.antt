@@ -1,0 +1,89 @@
+use Rattle.base.specs.Outcome.Outcome.{value}
+use Rattle.base.specs.Outcome.{Outcome}
+use Rattle.isa.specs.Answer.{decoded}
+use Rattle.isa.specs.declared.Instruction.{Instruction}
+use Rattle.isa.specs.declared.Decoded.{Decoded}
+use Prim.Native.Nat.{ℕ, _-_}
+use mathlib.Core.Path.{sym, ap, _∙_}
+use Rattle.checker.specs.Located.{locatedIn}
+use Rattle.safety.specs.Verdicts.{summaryFrom}
+use borrow.Author.Needs.{needs}
+use Rattle.checker.proofs.instruction_at.Statement.{statement}
+use Rattle.checker.proofs.instruction_at.Tie as tie
+
+cast-decode : tie.Need-cast-decode
+cast-decode c = search needs
+
+decode-requires : tie.Need-decode-requires
+decode-requires c κs = search needs
+
+enum-known-d : tie.Need-enum-known-d
+enum-known-d c = search needs
+
+cast-wrapping-add-u16 : tie.Need-cast-wrapping-add-u16
+cast-wrapping-add-u16 c = search needs
+
+wrapping-add-u16-requires : tie.Need-wrapping-add-u16-requires
+wrapping-add-u16-requires c κs = search needs
+
+action-of-requires : tie.Need-action-of-requires
+action-of-requires c κs = search needs
+
+summary-of-requires : tie.Need-summary-of-requires
+summary-of-requires c κs = search needs
+
+enum-told : tie.Need-enum-told
+enum-told c = search needs
+
+no-instruction-requires : tie.Need-no-instruction-requires
+no-instruction-requires c κs = search needs
+
+enum-told-2 : tie.Need-enum-told-2
+enum-told-2 c = search needs
+
+no-instruction-requires-2 : tie.Need-no-instruction-requires-2
+no-instruction-requires-2 c κs = search needs
+
+enum-told-3 : tie.Need-enum-told-3
+enum-told-3 c = search needs
+
+no-instruction-requires-3 : tie.Need-no-instruction-requires-3
+no-instruction-requires-3 c κs = search needs
+
+returns : tie.Need-returns
+unfolding locatedIn summaryFrom
+returns c = let g = c .before .before .before .before .before .before .before .before .before .args in _∙_ {b = locatedIn (value (c .before .before .before .before .d .given .0 .0, c .before .before .before .before .d .given .0 .1 .0)) (g .a .0)} (simp (c .summary-of .ensures, c .before .action-of .ensures, c .before .before .wrapping-add-u16 .ensures)) (ap (λ (d : Decoded). locatedIn (decoded d) (g .a .0)) (sym (c .before .before .before .before .d .given .1)) ∙ ap (λ (o : Outcome (Instruction × ℕ)). locatedIn o (g .a .0)) (c .before .before .before .before .before .before .decode .ensures))
+
+returns-2 : tie.Need-returns-2
+unfolding locatedIn summaryFrom
+returns-2 c = let g = c .before .before .before .before .before .before .args in c .no-instruction .ensures ∙ ap (λ (d : Decoded). locatedIn (decoded d) (g .a .0)) (sym (c .before .enum-told .given .1)) ∙ ap (λ (o : Outcome (Instruction × ℕ)). locatedIn o (g .a .0)) (c .before .before .before .decode .ensures)
+
+returns-3 : tie.Need-returns-3
+unfolding locatedIn summaryFrom
+returns-3 c = let g = c .before .before .before .before .before .before .args in c .no-instruction2 .ensures ∙ ap (λ (d : Decoded). locatedIn (decoded d) (g .a .0)) (sym (c .before .enum-told2 .given .1)) ∙ ap (λ (o : Outcome (Instruction × ℕ)). locatedIn o (g .a .0)) (c .before .before .before .decode .ensures)
+
+returns-4 : tie.Need-returns-4
+unfolding locatedIn summaryFrom
+returns-4 c = let g = c .before .before .before .before .before .before .args in c .no-instruction3 .ensures ∙ ap (λ (d : Decoded). locatedIn (decoded d) (g .a .0)) (sym (c .before .enum-told3 .given .1)) ∙ ap (λ (o : Outcome (Instruction × ℕ)). locatedIn o (g .a .0)) (c .before .before .before .decode .ensures)
+
+pub instruction-at-spec : {M : Type 1} → statement M
+instruction-at-spec =
+    tie.close
+    (tie.spec
+    cast-decode
+    decode-requires
+    enum-known-d
+    cast-wrapping-add-u16
+    wrapping-add-u16-requires
+    action-of-requires
+    summary-of-requires
+    enum-told
+    no-instruction-requires
+    enum-told-2
+    no-instruction-requires-2
+    enum-told-3
+    no-instruction-requires-3
+    returns
+    returns-2
+    returns-3
+    returns-4)

@@ -1,0 +1,26 @@
+use Rattle.entries.specs.declared.Entry.{Entry}
+use Rattle.safety.specs.Verdicts.{numberAt}
+use Rattle.certificate.specs.Layout.{certificateOf}
+use Prim.Native.Nat.{_-_}
+use borrow.Author.Tests.{eq-eqb, ne-eqb}
+use mathlib.Core.Path.{sym, ap, _∙_}
+use borrow.Author.Needs.{needs}
+use Rattle.checker.proofs.number_at.Statement.{statement}
+use Rattle.checker.proofs.number_at.Tie as tie
+
+entry-at-requires : tie.Need-entry-at-requires
+entry-at-requires c κs = search needs
+
+returns : tie.Need-returns
+unfolding numberAt
+returns c = let g = c .before .before .before .before .before .args in let C = certificateOf (g .cert .now) in let a = g .a .0 in rw (numberAt, eq-eqb (C .routine a) 0 (sym (ap (λ (e : Entry). e .routine) (c .before .before .entry-at .ensures)) ∙ c .if1 .taken))
+
+number-in-requires : tie.Need-number-in-requires
+number-in-requires c κs = search needs
+
+returns-2 : tie.Need-returns-2
+unfolding numberAt
+returns-2 c = let g = c .before .before .before .before .before .before .args in let C = certificateOf (g .cert .now) in let a = g .a .0 in rw (numberAt, ne-eqb (C .routine a) 0 (λ q. c .before .if1 .left (ap (λ (e : Entry). e .routine) (c .before .before .before .entry-at .ensures) ∙ q))) (c .number-in .ensures)
+
+pub number-at-spec : {M : Type 1} → statement M
+number-at-spec = tie.close (tie.spec entry-at-requires returns number-in-requires returns-2)

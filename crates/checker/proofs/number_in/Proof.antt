@@ -1,0 +1,26 @@
+use Rattle.checker.specs.declared.Located.{Located}
+use Rattle.safety.specs.Verdicts.{firstBroken, rulesAt, summaryAt, nextAt}
+use Rattle.checker.specs.Located.{locatedIn, rulesOn}
+use Rattle.certificate.specs.Layout.{certificateOf}
+use Prim.Native.Nat.{ℕ, _-_}
+use mathlib.Core.Path.{ap, _∙_}
+use borrow.Author.Needs.{needs}
+use Rattle.checker.proofs.number_in.Statement.{statement}
+use Rattle.checker.proofs.number_in.Tie as tie
+
+instruction-at-requires : tie.Need-instruction-at-requires
+instruction-at-requires c κs = search needs
+
+cost-at-requires : tie.Need-cost-at-requires
+cost-at-requires c κs = search needs
+
+first-broken-requires : tie.Need-first-broken-requires
+first-broken-requires c κs = search needs
+
+returns : tie.Need-returns
+unfolding rulesAt rulesOn locatedIn summaryAt nextAt
+returns c = let g = c .before .before .before .before .before .before .args in let C = certificateOf (g .cert .now) in let a = g .a .0 in let k = c .before .cost-at .result in c .first-broken .ensures ∙ ap (λ (i : Located). firstBroken (rulesOn C a (i .summary) (i .next .0) k)) (c .before .before .before .instruction-at .ensures) ∙ ap (λ (n : ℕ). firstBroken (rulesOn C a (summaryAt (g .image .now) a) (nextAt (g .image .now) a) n)) (c .before .cost-at .ensures)
+
+pub number-in-spec : {M : Type 1} → statement M
+number-in-spec =
+    tie.close (tie.spec instruction-at-requires cost-at-requires first-broken-requires returns)

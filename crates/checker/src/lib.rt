@@ -1,0 +1,188 @@
+// The certificate checker.
+ghost use mathlib.Core.Path.{_≡_};
+ghost use Rattle.base.specs.Outcome.Outcome.{refused};
+ghost use Rattle.certificate.specs.Layout.{certificateOf};
+ghost use Rattle.safety.specs.Verdicts.{costAt, firstBroken, numberAt, scan, verdictOf};
+ghost use Rattle.checker.specs.Answer.{answered};
+ghost use Rattle.checker.specs.Located.{locatedIn, locatedAt, tested, rulesOn, reportOf};
+ghost use Rattle.certificate.specs.declared.Verdict.the-variants.{Accepted};
+ghost use Rattle.safety.specs.Statement.{Demand3};
+use base::RomAddr;
+use certificate::Summary;
+use certificate::Verdict;
+use isa::Decoded;
+
+// The instruction at an address: its summary, and the address behind it.
+pub struct Located {
+    pub summary: Summary,
+    pub next: RomAddr,
+}
+
+// What the program prints of a routine.
+pub struct ReportRow {
+    pub used: bool,
+    pub start: RomAddr,
+    pub need: u8,
+    pub bound: u16,
+}
+
+// What no accepted program has, one byte long.
+fn no_instruction(a: RomAddr) -> Located
+    ensures { λ r. ⌜ r ≡ locatedIn (refused 0) (a .0) ⌝ }
+{
+    let s = summary::forbidden();
+    Located {
+        summary: s,
+        next: RomAddr(std::num::wrapping_add_u16(a.0, 1)),
+    }
+}
+
+fn instruction_at(image: &[u8], a: RomAddr) -> Located
+    ensures { λ r. ⌜ r ≡ locatedAt (now (image .entry)) (a .0) ⌝ }
+{
+    let d = decode::decode(image, a.0 as usize);
+    match d {
+        Decoded::Found(i, n) => {
+            let next = RomAddr(std::num::wrapping_add_u16(a.0, n as u16));
+            let s = summary::summary_of(action::action_of(i, next));
+            Located {
+                summary: s,
+                next: next,
+            }
+        }
+        Decoded::CutOff => no_instruction(a),
+        Decoded::Undefined => no_instruction(a),
+        Decoded::OddPair => no_instruction(a),
+    }
+}
+
+fn cost_at(image: &[u8], a: RomAddr) -> u8
+    ensures { λ r. ⌜ r ≡ costAt (now (image .entry)) (a .0) ⌝ }
+{
+    isa::cycles_of(entries::byte_at(image, a.0 as usize))
+}
+
+// Which of rules 21 to 27 holds.
+struct Holding {
+    rule21: bool,
+    rule22: bool,
+    rule23: bool,
+    rule24: bool,
+    rule25: bool,
+    rule26: bool,
+    rule27: bool,
+}
+
+// The lowest number of a rule that does not hold, or 0.
+fn lowest(h: Holding) -> u8
+    ensures { λ r. ⌜ r ≡ firstBroken (tested h) ⌝ }
+{
+    if !h.rule21 {
+        return 21;
+    }
+    if !h.rule22 {
+        return 22;
+    }
+    if !h.rule23 {
+        return 23;
+    }
+    if !h.rule24 {
+        return 24;
+    }
+    if !h.rule25 {
+        return 25;
+    }
+    if !h.rule26 {
+        return 26;
+    }
+    if !h.rule27 {
+        return 27;
+    }
+    0
+}
+
+// The lowest number of a rule that is broken at a, or 0.
+fn first_broken(cert: &[u8], a: RomAddr, s: Summary, cost: u8, next: RomAddr) -> u8
+    ensures { λ r. ⌜ r ≡ firstBroken (rulesOn (certificateOf (now (cert .entry))) (a .0) s (next .0) cost) ⌝ }
+{
+    lowest(Holding {
+        rule21: rules::rule21(cert, a, s, next),
+        rule22: rules::rule22(cert, a, s),
+        rule23: rules::rule23(cert, a, s),
+        rule24: rules::rule24(cert, a, s),
+        rule25: rules::rule25(cert, a, s, next),
+        rule26: rule26::rule26(cert, a, s, next),
+        rule27: rule27::rule27(cert, a, s, cost, next),
+    })
+}
+
+// The number at an address with an entry.
+fn number_in(image: &[u8], cert: &[u8], a: RomAddr) -> u8
+    ensures { λ r. ⌜ r ≡ firstBroken (Rattle.safety.specs.Verdicts.rulesAt (certificateOf (now (cert .entry))) (now (image .entry)) (a .0)) ⌝ }
+{
+    let i = instruction_at(image, a);
+    let s = i.summary;
+    first_broken(cert, a, s, cost_at(image, a), i.next)
+}
+
+// The lowest number that is broken at an address; where no instruction starts, none is.
+fn number_at(image: &[u8], cert: &[u8], a: RomAddr) -> u8
+    ensures { λ r. ⌜ r ≡ numberAt (certificateOf (now (cert .entry))) (now (image .entry)) (a .0) ⌝ }
+{
+    let e = entries::entry_at(cert, a);
+    if e.routine == 0 {
+        return 0;
+    }
+    number_in(image, cert, a)
+}
+
+// The lowest address with a broken rule, and there the lowest number.
+fn first_refusal(image: &[u8], cert: &[u8]) -> Verdict
+    ensures { λ r. ⌜ r ≡ scan (certificateOf (now (cert .entry))) (now (image .entry)) 4096 0 ⌝ }
+{
+    let mut a: u16 = 0;
+    while a < 4096 {
+        let n = number_at(image, cert, RomAddr(a));
+        if n != 0 {
+            return Verdict::Refused(n, RomAddr(a));
+        }
+        a += 1;
+    }
+    Verdict::Accepted
+}
+
+// The verdict on an image and a certificate: accepted, or the number and the address of the first broken rule. What is accepted is safe on
+// every run from reset, under every schedule (demand 3).
+pub fn check(image: &[u8], cert: &[u8]) -> Verdict
+    ensures verdict { λ r. ⌜ r ≡ verdictOf (now (image .entry)) (now (cert .entry)) ⌝ }
+    ensures answer { λ r. ⌜ answered r ≡ answered (verdictOf (now (image .entry)) (now (cert .entry))) ⌝ }
+    ensures safe { λ r. ⌜ (r ≡ Accepted → Demand3 (certificateOf (now (cert .entry))) (now (image .entry))) ⌝ }
+{
+    if image.len() != 4096 {
+        return Verdict::Refused(7, RomAddr(0));
+    }
+    if cert.len() != 58498 {
+        return Verdict::Refused(7, RomAddr(0));
+    }
+    let _image = image[0];
+    let _cert = cert[0];
+    if !rule20::rule20(image, cert) {
+        return Verdict::Refused(20, RomAddr(0));
+    }
+    first_refusal(image, cert)
+}
+
+// What the program prints of routine n.
+pub fn row_of(cert: &[u8], n: u8) -> ReportRow
+    ensures { λ r. ⌜ r ≡ reportOf (certificateOf (now (cert .entry))) n ⌝ }
+{
+    let row = entries::routine_row(cert, n);
+    let used = rule20::used(cert, n);
+    let start = row.start;
+    ReportRow {
+        used: used,
+        start: start,
+        need: row.need,
+        bound: row.bound,
+    }
+}
