@@ -16,8 +16,8 @@ pub enum Written {
     WrongLength,
 }
 
-// The upper-case digit of a value below 16.
-fn hex_digit(x: u8) -> u8
+// The upper-case digit of a value below 16. Public for the crates above.
+pub fn hex_digit(x: u8) -> u8
     requires { ⌜ x < 16 ⌝ }
     ensures { λ r. ⌜ r ≡ hexDigit x ⌝ }
 {

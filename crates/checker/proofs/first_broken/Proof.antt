@@ -35,7 +35,10 @@ lowest-requires : tie.Need-lowest-requires
 lowest-requires c κs = search needs
 
 returns : tie.Need-returns
-returns c = let g = c .before .before .before .before .before .before .before .before .before .args in let C = certificateOf (g .cert .now) in c .lowest .ensures ∙ ap (λ (h : Holding). firstBroken (tested h)) (simp (c .before .before .before .before .before .before .before .rule21 .ensures, c .before .before .before .before .before .before .rule22 .ensures, c .before .before .before .before .before .rule23 .ensures, c .before .before .before .before .rule24 .ensures, c .before .before .before .rule25 .ensures, c .before .before .rule26 .ensures, c .before .rule27 .ensures)) ∙ first-by-value C (g .a .0) (g .s) (g .next .0) (g .cost)
+returns c =
+    let g = c .before .before .before .before .before .before .before .before .before .args in
+    let C = certificateOf (g .cert .now) in
+    c .lowest .ensures ∙ ap (λ (h : Holding). firstBroken (tested h)) (simp (c .before .before .before .before .before .before .before .rule21 .ensures, c .before .before .before .before .before .before .rule22 .ensures, c .before .before .before .before .before .rule23 .ensures, c .before .before .before .before .rule24 .ensures, c .before .before .before .rule25 .ensures, c .before .before .rule26 .ensures, c .before .rule27 .ensures)) ∙ first-by-value C (g .a .0) (g .s) (g .next .0) (g .cost)
 
 pub first-broken-spec : {M : Type 1} → statement M
 first-broken-spec =

@@ -22,7 +22,12 @@ number-at-requires c κs = search needs
 
 returns : tie.Need-returns Inv-loop μ-loop
 unfolding scan
-returns c = let g = c .before .before .before .before .before .before .args in let C = certificateOf (g .cert .now) in let image = g .image .now in let o = c .before .before .before .loop in rw (c .before .number-at .ensures) (sym (o .inv .1 ∙ scan-stop C image (o .a) (omega arith) (λ z. c .if1 .taken (c .before .number-at .ensures ∙ z))))
+returns c =
+    let g = c .before .before .before .before .before .before .args in
+    let C = certificateOf (g .cert .now) in
+    let image = g .image .now in
+    let o = c .before .before .before .loop in
+    rw (c .before .number-at .ensures) (sym (o .inv .1 ∙ scan-stop C image (o .a) (omega arith) (λ z. c .if1 .taken (c .before .number-at .ensures ∙ z))))
 
 add-a : tie.Need-add-a Inv-loop μ-loop
 add-a c = omega arith
@@ -31,11 +36,22 @@ loop-less : tie.Need-loop-less Inv-loop μ-loop
 loop-less c = omega arith
 
 loop-again : tie.Need-loop-again Inv-loop μ-loop
-loop-again c = let g = c .before .before .before .before .before .before .args in let C = certificateOf (g .cert .now) in let image = g .image .now in let o = c .before .before .before .loop in (omega arith, o .inv .1 ∙ scan-on C image (o .a) (omega arith) (sym (c .before .number-at .ensures) ∙ c .if1 .left))
+loop-again c =
+    let g = c .before .before .before .before .before .before .args in
+    let C = certificateOf (g .cert .now) in
+    let image = g .image .now in
+    let o = c .before .before .before .loop in
+    (omega arith, o .inv .1 ∙ scan-on C image (o .a) (omega arith) (sym (c .before .number-at .ensures) ∙ c .if1 .left))
 
 returns-2 : tie.Need-returns-2 Inv-loop μ-loop
 unfolding scan
-returns-2 c = let g = c .before .before .before .before .args in let C = certificateOf (g .cert .now) in let image = g .image .now in let o = c .before .loop in let z : 4096 - o .a ≡ 0 = omega arith in sym (o .inv .1 ∙ ap (λ (n : ℕ). scan C image n (o .a)) z)
+returns-2 c =
+    let g = c .before .before .before .before .args in
+    let C = certificateOf (g .cert .now) in
+    let image = g .image .now in
+    let o = c .before .loop in
+    let z : 4096 - o .a ≡ 0 = omega arith in
+    sym (o .inv .1 ∙ ap (λ (n : ℕ). scan C image n (o .a)) z)
 
 pub first-refusal-spec : {M : Type 1} → statement M
 first-refusal-spec =

@@ -52,19 +52,27 @@ no-instruction-requires-3 c κs = search needs
 
 returns : tie.Need-returns
 unfolding locatedIn summaryFrom
-returns c = let g = c .before .before .before .before .before .before .before .before .before .args in _∙_ {b = locatedIn (value (c .before .before .before .before .d .given .0 .0, c .before .before .before .before .d .given .0 .1 .0)) (g .a .0)} (simp (c .summary-of .ensures, c .before .action-of .ensures, c .before .before .wrapping-add-u16 .ensures)) (ap (λ (d : Decoded). locatedIn (decoded d) (g .a .0)) (sym (c .before .before .before .before .d .given .1)) ∙ ap (λ (o : Outcome (Instruction × ℕ)). locatedIn o (g .a .0)) (c .before .before .before .before .before .before .decode .ensures))
+returns c =
+    let g = c .before .before .before .before .before .before .before .before .before .args in
+    _∙_ {b = locatedIn (value (c .before .before .before .before .d .given .0 .0, c .before .before .before .before .d .given .0 .1 .0)) (g .a .0)} (simp (c .summary-of .ensures, c .before .action-of .ensures, c .before .before .wrapping-add-u16 .ensures)) (ap (λ (d : Decoded). locatedIn (decoded d) (g .a .0)) (sym (c .before .before .before .before .d .given .1)) ∙ ap (λ (o : Outcome (Instruction × ℕ)). locatedIn o (g .a .0)) (c .before .before .before .before .before .before .decode .ensures))
 
 returns-2 : tie.Need-returns-2
 unfolding locatedIn summaryFrom
-returns-2 c = let g = c .before .before .before .before .before .before .args in c .no-instruction .ensures ∙ ap (λ (d : Decoded). locatedIn (decoded d) (g .a .0)) (sym (c .before .enum-told .given .1)) ∙ ap (λ (o : Outcome (Instruction × ℕ)). locatedIn o (g .a .0)) (c .before .before .before .decode .ensures)
+returns-2 c =
+    let g = c .before .before .before .before .before .before .args in
+    c .no-instruction .ensures ∙ ap (λ (d : Decoded). locatedIn (decoded d) (g .a .0)) (sym (c .before .enum-told .given .1)) ∙ ap (λ (o : Outcome (Instruction × ℕ)). locatedIn o (g .a .0)) (c .before .before .before .decode .ensures)
 
 returns-3 : tie.Need-returns-3
 unfolding locatedIn summaryFrom
-returns-3 c = let g = c .before .before .before .before .before .before .args in c .no-instruction2 .ensures ∙ ap (λ (d : Decoded). locatedIn (decoded d) (g .a .0)) (sym (c .before .enum-told2 .given .1)) ∙ ap (λ (o : Outcome (Instruction × ℕ)). locatedIn o (g .a .0)) (c .before .before .before .decode .ensures)
+returns-3 c =
+    let g = c .before .before .before .before .before .before .args in
+    c .no-instruction2 .ensures ∙ ap (λ (d : Decoded). locatedIn (decoded d) (g .a .0)) (sym (c .before .enum-told2 .given .1)) ∙ ap (λ (o : Outcome (Instruction × ℕ)). locatedIn o (g .a .0)) (c .before .before .before .decode .ensures)
 
 returns-4 : tie.Need-returns-4
 unfolding locatedIn summaryFrom
-returns-4 c = let g = c .before .before .before .before .before .before .args in c .no-instruction3 .ensures ∙ ap (λ (d : Decoded). locatedIn (decoded d) (g .a .0)) (sym (c .before .enum-told3 .given .1)) ∙ ap (λ (o : Outcome (Instruction × ℕ)). locatedIn o (g .a .0)) (c .before .before .before .decode .ensures)
+returns-4 c =
+    let g = c .before .before .before .before .before .before .args in
+    c .no-instruction3 .ensures ∙ ap (λ (d : Decoded). locatedIn (decoded d) (g .a .0)) (sym (c .before .enum-told3 .given .1)) ∙ ap (λ (o : Outcome (Instruction × ℕ)). locatedIn o (g .a .0)) (c .before .before .before .decode .ensures)
 
 pub instruction-at-spec : {M : Type 1} → statement M
 instruction-at-spec =

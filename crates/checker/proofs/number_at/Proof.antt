@@ -13,14 +13,22 @@ entry-at-requires c κs = search needs
 
 returns : tie.Need-returns
 unfolding numberAt
-returns c = let g = c .before .before .before .before .before .args in let C = certificateOf (g .cert .now) in let a = g .a .0 in rw (numberAt, eq-eqb (C .routine a) 0 (sym (ap (λ (e : Entry). e .routine) (c .before .before .entry-at .ensures)) ∙ c .if1 .taken))
+returns c =
+    let g = c .before .before .before .before .before .args in
+    let C = certificateOf (g .cert .now) in
+    let a = g .a .0 in
+    rw (numberAt, eq-eqb (C .routine a) 0 (sym (ap (λ (e : Entry). e .routine) (c .before .before .entry-at .ensures)) ∙ c .if1 .taken))
 
 number-in-requires : tie.Need-number-in-requires
 number-in-requires c κs = search needs
 
 returns-2 : tie.Need-returns-2
 unfolding numberAt
-returns-2 c = let g = c .before .before .before .before .before .before .args in let C = certificateOf (g .cert .now) in let a = g .a .0 in rw (numberAt, ne-eqb (C .routine a) 0 (λ q. c .before .if1 .left (ap (λ (e : Entry). e .routine) (c .before .before .before .entry-at .ensures) ∙ q))) (c .number-in .ensures)
+returns-2 c =
+    let g = c .before .before .before .before .before .before .args in
+    let C = certificateOf (g .cert .now) in
+    let a = g .a .0 in
+    rw (numberAt, ne-eqb (C .routine a) 0 (λ q. c .before .if1 .left (ap (λ (e : Entry). e .routine) (c .before .before .before .entry-at .ensures) ∙ q))) (c .number-in .ensures)
 
 pub number-at-spec : {M : Type 1} → statement M
 number-at-spec = tie.close (tie.spec entry-at-requires returns number-in-requires returns-2)

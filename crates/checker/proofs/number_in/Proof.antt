@@ -19,7 +19,12 @@ first-broken-requires c κs = search needs
 
 returns : tie.Need-returns
 unfolding rulesAt rulesOn locatedIn summaryAt nextAt
-returns c = let g = c .before .before .before .before .before .before .args in let C = certificateOf (g .cert .now) in let a = g .a .0 in let k = c .before .cost-at .result in c .first-broken .ensures ∙ ap (λ (i : Located). firstBroken (rulesOn C a (i .summary) (i .next .0) k)) (c .before .before .before .instruction-at .ensures) ∙ ap (λ (n : ℕ). firstBroken (rulesOn C a (summaryAt (g .image .now) a) (nextAt (g .image .now) a) n)) (c .before .cost-at .ensures)
+returns c =
+    let g = c .before .before .before .before .before .before .args in
+    let C = certificateOf (g .cert .now) in
+    let a = g .a .0 in
+    let k = c .before .cost-at .result in
+    c .first-broken .ensures ∙ ap (λ (i : Located). firstBroken (rulesOn C a (i .summary) (i .next .0) k)) (c .before .before .before .instruction-at .ensures) ∙ ap (λ (n : ℕ). firstBroken (rulesOn C a (summaryAt (g .image .now) a) (nextAt (g .image .now) a) n)) (c .before .cost-at .ensures)
 
 pub number-in-spec : {M : Type 1} → statement M
 number-in-spec =

@@ -35,7 +35,11 @@ stays-requires c κs = search needs
 
 returns : tie.Need-returns Inv-loop μ-loop
 unfolding among allWithin
-returns c = let s = c .before .before .before .before .before .before .args .s in let l = c .before .before .before .before .before .before .args .l in let h = c .before .before .before .before .before .before .args .h in decide-no (allWithin s l h) (λ f. decide-false (staysWithin s l h (c .before .before .before .loop .v)) (c .before .stays .ensures) (not-true _ (c .if1 .taken)) (f (c .before .before .before .loop .v) (omega arith)))
+returns c =
+    let s = c .before .before .before .before .before .before .args .s in
+    let l = c .before .before .before .before .before .before .args .l in
+    let h = c .before .before .before .before .before .before .args .h in
+    decide-no (allWithin s l h) (λ f. decide-false (staysWithin s l h (c .before .before .before .loop .v)) (c .before .stays .ensures) (not-true _ (c .if1 .taken)) (f (c .before .before .before .loop .v) (omega arith)))
 
 add-v : tie.Need-add-v Inv-loop μ-loop
 add-v c = omega arith
@@ -44,11 +48,19 @@ loop-less : tie.Need-loop-less Inv-loop μ-loop
 loop-less c = omega arith
 
 loop-again : tie.Need-loop-again Inv-loop μ-loop
-loop-again c = let s = c .before .before .before .before .before .before .args .s in let l = c .before .before .before .before .before .before .args .l in let h = c .before .before .before .before .before .before .args .h in (omega arith, c .before .before .before .loop .inv .1, below-more _ _ (c .before .before .before .loop .inv .2) (decide-true (staysWithin s l h (c .before .before .before .loop .v)) (c .before .stays .ensures) (not-false _ (c .if1 .left))))
+loop-again c =
+    let s = c .before .before .before .before .before .before .args .s in
+    let l = c .before .before .before .before .before .before .args .l in
+    let h = c .before .before .before .before .before .before .args .h in
+    (omega arith, c .before .before .before .loop .inv .1, below-more _ _ (c .before .before .before .loop .inv .2) (decide-true (staysWithin s l h (c .before .before .before .loop .v)) (c .before .stays .ensures) (not-false _ (c .if1 .left))))
 
 returns-2 : tie.Need-returns-2 Inv-loop μ-loop
 unfolding among allWithin
-returns-2 c = let s = c .before .before .before .before .args .s in let l = c .before .before .before .before .args .l in let h = c .before .before .before .before .args .h in decide-yes (allWithin s l h) (λ x hx. ⊎-elim (λ (q : c .before .loop .v ≤ x) m. absurd (omega (arith, m .1 .0))) (λ (q : x < c .before .loop .v). c .before .loop .inv .2 x q) (le? (c .before .loop .v) x))
+returns-2 c =
+    let s = c .before .before .before .before .args .s in
+    let l = c .before .before .before .before .args .l in
+    let h = c .before .before .before .before .args .h in
+    decide-yes (allWithin s l h) (λ x hx. ⊎-elim (λ (q : c .before .loop .v ≤ x) m. absurd (omega (arith, m .1 .0))) (λ (q : x < c .before .loop .v). c .before .loop .inv .2 x q) (le? (c .before .loop .v) x))
 
 pub all-within-spec : {M : Type 1} → statement M
 all-within-spec =

@@ -17,7 +17,10 @@ feasible-for-requires c κs = search needs
 
 returns : tie.Need-returns
 unfolding feasible feasibleFor
-returns c = let g = c .before .before .before .args in let C = certificateOf (g .cert .now) in c .feasible-for .ensures ∙ ap (λ (n : Entry). decide (feasibleFor C (g .a .0) (edgeOf (g .e)) (n .compare .cell .0))) (c .before .entry-at .ensures)
+returns c =
+    let g = c .before .before .before .args in
+    let C = certificateOf (g .cert .now) in
+    c .feasible-for .ensures ∙ ap (λ (n : Entry). decide (feasibleFor C (g .a .0) (edgeOf (g .e)) (n .compare .cell .0))) (c .before .entry-at .ensures)
 
 pub feasible-spec : {M : Type 1} → statement M
 feasible-spec = tie.close (tie.spec entry-at-requires feasible-for-requires returns)

@@ -15,7 +15,13 @@ claimed-requires c κs = search needs
 
 returns : tie.Need-returns
 unfolding feasibleFor noneAmong
-returns c = let g = c .before .before .before .args in let C = certificateOf (g .cert .now) in let a = g .a .0 in let e = edgeOf (g .e) in let x = g .x .0 in decide-yes (feasibleFor C a e x) (λ m. absurd (decide-false (claimed C a x) (c .before .claimed .ensures) (not-true _ (c .if1 .taken)) m))
+returns c =
+    let g = c .before .before .before .args in
+    let C = certificateOf (g .cert .now) in
+    let a = g .a .0 in
+    let e = edgeOf (g .e) in
+    let x = g .x .0 in
+    decide-yes (feasibleFor C a e x) (λ m. absurd (decide-false (claimed C a x) (c .before .claimed .ensures) (not-true _ (c .if1 .taken)) m))
 
 values-left-requires : tie.Need-values-left-requires
 values-left-requires c κs = search needs
@@ -25,11 +31,23 @@ none-left-requires c κs = search needs
 
 returns-2 : tie.Need-returns-2
 unfolding feasibleFor noneAmong
-returns-2 c = let g = c .before .before .before .before .before .before .args in let C = certificateOf (g .cert .now) in let a = g .a .0 in let e = edgeOf (g .e) in let x = g .x .0 in decide-no (feasibleFor C a e x) (λ f. f (decide-true (claimed C a x) (c .before .before .before .before .claimed .ensures) (not-false _ (c .before .before .before .if1 .left))) (λ v hv m. decide-true (noneAmong (valuesOf C a e x)) (c .before .none-left .ensures ∙ ap (λ (s : Values). decide (noneAmong s)) (c .before .before .values-left .ensures)) (c .if2 .taken) v hv (left-among C a e x v m)))
+returns-2 c =
+    let g = c .before .before .before .before .before .before .args in
+    let C = certificateOf (g .cert .now) in
+    let a = g .a .0 in
+    let e = edgeOf (g .e) in
+    let x = g .x .0 in
+    decide-no (feasibleFor C a e x) (λ f. f (decide-true (claimed C a x) (c .before .before .before .before .claimed .ensures) (not-false _ (c .before .before .before .if1 .left))) (λ v hv m. decide-true (noneAmong (valuesOf C a e x)) (c .before .none-left .ensures ∙ ap (λ (s : Values). decide (noneAmong s)) (c .before .before .values-left .ensures)) (c .if2 .taken) v hv (left-among C a e x v m)))
 
 returns-3 : tie.Need-returns-3
 unfolding feasibleFor noneAmong
-returns-3 c = let g = c .before .before .before .before .before .before .args in let C = certificateOf (g .cert .now) in let a = g .a .0 in let e = edgeOf (g .e) in let x = g .x .0 in decide-yes (feasibleFor C a e x) (λ m f. decide-false (noneAmong (valuesOf C a e x)) (c .before .none-left .ensures ∙ ap (λ (s : Values). decide (noneAmong s)) (c .before .before .values-left .ensures)) (c .if2 .left) (λ v hv k. f v hv (among-left C a e x v k)))
+returns-3 c =
+    let g = c .before .before .before .before .before .before .args in
+    let C = certificateOf (g .cert .now) in
+    let a = g .a .0 in
+    let e = edgeOf (g .e) in
+    let x = g .x .0 in
+    decide-yes (feasibleFor C a e x) (λ m f. decide-false (noneAmong (valuesOf C a e x)) (c .before .none-left .ensures ∙ ap (λ (s : Values). decide (noneAmong s)) (c .before .before .values-left .ensures)) (c .if2 .left) (λ v hv k. f v hv (among-left C a e x v k)))
 
 pub feasible-for-spec : {M : Type 1} → statement M
 feasible-for-spec =

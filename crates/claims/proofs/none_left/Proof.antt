@@ -35,7 +35,9 @@ has-requires c κs = search needs
 
 returns : tie.Need-returns Inv-loop μ-loop
 unfolding among noneAmong
-returns c = let s = c .before .before .before .before .before .before .args .s in decide-no (noneAmong s) (λ f. f (c .before .before .before .loop .v) (omega arith) (decide-true (among s (c .before .before .before .loop .v)) (c .before .has .ensures) (c .if1 .taken)))
+returns c =
+    let s = c .before .before .before .before .before .before .args .s in
+    decide-no (noneAmong s) (λ f. f (c .before .before .before .loop .v) (omega arith) (decide-true (among s (c .before .before .before .loop .v)) (c .before .has .ensures) (c .if1 .taken)))
 
 add-v : tie.Need-add-v Inv-loop μ-loop
 add-v c = omega arith
@@ -44,11 +46,15 @@ loop-less : tie.Need-loop-less Inv-loop μ-loop
 loop-less c = omega arith
 
 loop-again : tie.Need-loop-again Inv-loop μ-loop
-loop-again c = let s = c .before .before .before .before .before .before .args .s in (omega arith, c .before .before .before .loop .inv .1, below-more _ _ (c .before .before .before .loop .inv .2) (decide-false (among s (c .before .before .before .loop .v)) (c .before .has .ensures) (c .if1 .left)))
+loop-again c =
+    let s = c .before .before .before .before .before .before .args .s in
+    (omega arith, c .before .before .before .loop .inv .1, below-more _ _ (c .before .before .before .loop .inv .2) (decide-false (among s (c .before .before .before .loop .v)) (c .before .has .ensures) (c .if1 .left)))
 
 returns-2 : tie.Need-returns-2 Inv-loop μ-loop
 unfolding among noneAmong
-returns-2 c = let s = c .before .before .before .before .args .s in decide-yes (noneAmong s) (λ x hx. ⊎-elim (λ (q : c .before .loop .v ≤ x) m. absurd (omega (arith, m .1 .0))) (λ (q : x < c .before .loop .v). c .before .loop .inv .2 x q) (le? (c .before .loop .v) x))
+returns-2 c =
+    let s = c .before .before .before .before .args .s in
+    decide-yes (noneAmong s) (λ x hx. ⊎-elim (λ (q : c .before .loop .v ≤ x) m. absurd (omega (arith, m .1 .0))) (λ (q : x < c .before .loop .v). c .before .loop .inv .2 x q) (le? (c .before .loop .v) x))
 
 pub none-left-spec : {M : Type 1} → statement M
 none-left-spec =

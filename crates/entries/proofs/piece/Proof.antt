@@ -18,7 +18,9 @@ part-result-end : tie.Need-part-result-end
 part-result-end c = search needs
 
 returns : tie.Need-returns
-returns c = let a = c .before .before .args in rw (drop-of-length-le (a .b .now) {i = a .i} (c .before .if1 .taken), take-nil (a .w))
+returns c =
+    let a = c .before .before .args in
+    rw (drop-of-length-le (a .b .now) {i = a .i} (c .before .if1 .taken), take-nil (a .w))
 
 sub-if2 : tie.Need-sub-if2
 sub-if2 c = search needs
@@ -33,7 +35,9 @@ part-result-end-2 : tie.Need-part-result-end-2
 part-result-end-2 c = search needs
 
 returns-2 : tie.Need-returns-2
-returns-2 c = let a = c .before .before .before .args in piece-to-end (a .b .now) (a .i) (a .w) (omega arith)
+returns-2 c =
+    let a = c .before .before .before .args in
+    piece-to-end (a .b .now) (a .i) (a .w) (omega arith)
 
 add-e : tie.Need-add-e
 add-e c = search needs
@@ -48,7 +52,10 @@ part-result-end-3 : tie.Need-part-result-end-3
 part-result-end-3 c = search needs
 
 returns-3 : tie.Need-returns-3
-returns-3 c = let a = c .before .before .before .args in let h : a .i + a .w - a .i ≡ a .w = omega arith in rw h
+returns-3 c =
+    let a = c .before .before .before .args in
+    let h : a .i + a .w - a .i ≡ a .w = omega arith in
+    rw h
 
 pub piece-spec : {M : Type 1} → statement M
 piece-spec =

@@ -27,7 +27,10 @@ cell-rule-requires c κs = search needs
 
 returns : tie.Need-returns Inv-loop μ-loop
 unfolding cellsRule
-returns c = let C = certificateOf (c .before .before .before .before .before .args .cert .now) in let k = c .before .before .before .loop .x in decide-no (cellsRule C) (λ f. decide-false (cellRule C k) (c .before .cell-rule .ensures) (not-true _ (c .if1 .taken)) (f k (omega arith)))
+returns c =
+    let C = certificateOf (c .before .before .before .before .before .args .cert .now) in
+    let k = c .before .before .before .loop .x in
+    decide-no (cellsRule C) (λ f. decide-false (cellRule C k) (c .before .cell-rule .ensures) (not-true _ (c .if1 .taken)) (f k (omega arith)))
 
 add-x : tie.Need-add-x Inv-loop μ-loop
 add-x c = omega arith
@@ -36,11 +39,16 @@ loop-less : tie.Need-loop-less Inv-loop μ-loop
 loop-less c = omega arith
 
 loop-again : tie.Need-loop-again Inv-loop μ-loop
-loop-again c = let C = certificateOf (c .before .before .before .before .before .args .cert .now) in let k = c .before .before .before .loop .x in (omega arith, below-more _ _ (c .before .before .before .loop .inv .1) (decide-true (cellRule C k) (c .before .cell-rule .ensures) (not-false _ (c .if1 .left))))
+loop-again c =
+    let C = certificateOf (c .before .before .before .before .before .args .cert .now) in
+    let k = c .before .before .before .loop .x in
+    (omega arith, below-more _ _ (c .before .before .before .loop .inv .1) (decide-true (cellRule C k) (c .before .cell-rule .ensures) (not-false _ (c .if1 .left))))
 
 returns-2 : tie.Need-returns-2 Inv-loop μ-loop
 unfolding cellsRule
-returns-2 c = let C = certificateOf (c .before .before .before .args .cert .now) in decide-yes (cellsRule C) (λ k hk. c .before .loop .inv .1 k (omega arith))
+returns-2 c =
+    let C = certificateOf (c .before .before .before .args .cert .now) in
+    decide-yes (cellsRule C) (λ k hk. c .before .loop .inv .1 k (omega arith))
 
 pub cells-rule-spec : {M : Type 1} → statement M
 cells-rule-spec =

@@ -12,22 +12,34 @@ routine-rule-requires : tie.Need-routine-rule-requires
 routine-rule-requires c κs = search needs
 
 returns : tie.Need-returns
-returns c = let C = certificateOf (c .before .before .before .args .cert .now) in let a = c .before .before .before .args .a .0 in decide-no (entryRule C a) (λ m. decide-false (routineRule C a) (c .before .routine-rule .ensures) (not-true _ (c .if1 .taken)) (entry-split C a m .0))
+returns c =
+    let C = certificateOf (c .before .before .before .args .cert .now) in
+    let a = c .before .before .before .args .a .0 in
+    decide-no (entryRule C a) (λ m. decide-false (routineRule C a) (c .before .routine-rule .ensures) (not-true _ (c .if1 .taken)) (entry-split C a m .0))
 
 bound-rule-requires : tie.Need-bound-rule-requires
 bound-rule-requires c κs = search needs
 
 returns-2 : tie.Need-returns-2
-returns-2 c = let C = certificateOf (c .before .before .before .before .before .args .cert .now) in let a = c .before .before .before .before .before .args .a .0 in decide-no (entryRule C a) (λ m. decide-false (boundRule C a) (c .before .bound-rule .ensures) (not-true _ (c .if2 .taken)) (entry-split C a m .1))
+returns-2 c =
+    let C = certificateOf (c .before .before .before .before .before .args .cert .now) in
+    let a = c .before .before .before .before .before .args .a .0 in
+    decide-no (entryRule C a) (λ m. decide-false (boundRule C a) (c .before .bound-rule .ensures) (not-true _ (c .if2 .taken)) (entry-split C a m .1))
 
 claims-rule-requires : tie.Need-claims-rule-requires
 claims-rule-requires c κs = search needs
 
 returns-3 : tie.Need-returns-3
-returns-3 c = let C = certificateOf (c .before .before .before .before .before .before .before .args .cert .now) in let a = c .before .before .before .before .before .before .before .args .a .0 in decide-no (entryRule C a) (λ m. decide-false (claimsRule C a) (c .before .claims-rule .ensures) (not-true _ (c .if3 .taken)) (entry-split C a m .2))
+returns-3 c =
+    let C = certificateOf (c .before .before .before .before .before .before .before .args .cert .now) in
+    let a = c .before .before .before .before .before .before .before .args .a .0 in
+    decide-no (entryRule C a) (λ m. decide-false (claimsRule C a) (c .before .claims-rule .ensures) (not-true _ (c .if3 .taken)) (entry-split C a m .2))
 
 returns-4 : tie.Need-returns-4
-returns-4 c = let C = certificateOf (c .before .before .before .before .before .before .before .args .cert .now) in let a = c .before .before .before .before .before .before .before .args .a .0 in decide-yes (entryRule C a) (entry-join C a (decide-true (routineRule C a) (c .before .before .before .before .before .routine-rule .ensures) (not-false _ (c .before .before .before .before .if1 .left))) (decide-true (boundRule C a) (c .before .before .before .bound-rule .ensures) (not-false _ (c .before .before .if2 .left))) (decide-true (claimsRule C a) (c .before .claims-rule .ensures) (not-false _ (c .if3 .left))))
+returns-4 c =
+    let C = certificateOf (c .before .before .before .before .before .before .before .args .cert .now) in
+    let a = c .before .before .before .before .before .before .before .args .a .0 in
+    decide-yes (entryRule C a) (entry-join C a (decide-true (routineRule C a) (c .before .before .before .before .before .routine-rule .ensures) (not-false _ (c .before .before .before .before .if1 .left))) (decide-true (boundRule C a) (c .before .before .before .bound-rule .ensures) (not-false _ (c .before .before .if2 .left))) (decide-true (claimsRule C a) (c .before .claims-rule .ensures) (not-false _ (c .if3 .left))))
 
 pub entry-rule-spec : {M : Type 1} → statement M
 entry-rule-spec =

@@ -12,28 +12,43 @@ fixed-rule-requires : tie.Need-fixed-rule-requires
 fixed-rule-requires c κs = search needs
 
 returns : tie.Need-returns
-returns c = let C = certificateOf (c .before .before .before .before .args .cert .now) in let image = c .before .before .before .before .args .image .now in decide-no (rule20 C image) (λ m. decide-false (fixedRule C image) (c .before .fixed-rule .ensures) (not-true _ (c .if1 .taken)) (rule20-split C image m .0))
+returns c =
+    let C = certificateOf (c .before .before .before .before .args .cert .now) in
+    let image = c .before .before .before .before .args .image .now in
+    decide-no (rule20 C image) (λ m. decide-false (fixedRule C image) (c .before .fixed-rule .ensures) (not-true _ (c .if1 .taken)) (rule20-split C image m .0))
 
 cells-rule-requires : tie.Need-cells-rule-requires
 cells-rule-requires c κs = search needs
 
 returns-2 : tie.Need-returns-2
-returns-2 c = let C = certificateOf (c .before .before .before .before .before .before .args .cert .now) in let image = c .before .before .before .before .before .before .args .image .now in decide-no (rule20 C image) (λ m. decide-false (cellsRule C) (c .before .cells-rule .ensures) (not-true _ (c .if2 .taken)) (rule20-split C image m .1))
+returns-2 c =
+    let C = certificateOf (c .before .before .before .before .before .before .args .cert .now) in
+    let image = c .before .before .before .before .before .before .args .image .now in
+    decide-no (rule20 C image) (λ m. decide-false (cellsRule C) (c .before .cells-rule .ensures) (not-true _ (c .if2 .taken)) (rule20-split C image m .1))
 
 starts-rule-requires : tie.Need-starts-rule-requires
 starts-rule-requires c κs = search needs
 
 returns-3 : tie.Need-returns-3
-returns-3 c = let C = certificateOf (c .before .before .before .before .before .before .before .before .args .cert .now) in let image = c .before .before .before .before .before .before .before .before .args .image .now in decide-no (rule20 C image) (λ m. decide-false (startsRule C) (c .before .starts-rule .ensures) (not-true _ (c .if3 .taken)) (rule20-split C image m .2))
+returns-3 c =
+    let C = certificateOf (c .before .before .before .before .before .before .before .before .args .cert .now) in
+    let image = c .before .before .before .before .before .before .before .before .args .image .now in
+    decide-no (rule20 C image) (λ m. decide-false (startsRule C) (c .before .starts-rule .ensures) (not-true _ (c .if3 .taken)) (rule20-split C image m .2))
 
 addresses-rule-requires : tie.Need-addresses-rule-requires
 addresses-rule-requires c κs = search needs
 
 returns-4 : tie.Need-returns-4
-returns-4 c = let C = certificateOf (c .before .before .before .before .before .before .before .before .before .before .args .cert .now) in let image = c .before .before .before .before .before .before .before .before .before .before .args .image .now in decide-no (rule20 C image) (λ m. decide-false (addressesRule C) (c .before .addresses-rule .ensures) (not-true _ (c .if4 .taken)) (rule20-split C image m .3))
+returns-4 c =
+    let C = certificateOf (c .before .before .before .before .before .before .before .before .before .before .args .cert .now) in
+    let image = c .before .before .before .before .before .before .before .before .before .before .args .image .now in
+    decide-no (rule20 C image) (λ m. decide-false (addressesRule C) (c .before .addresses-rule .ensures) (not-true _ (c .if4 .taken)) (rule20-split C image m .3))
 
 returns-5 : tie.Need-returns-5
-returns-5 c = let C = certificateOf (c .before .before .before .before .before .before .before .before .before .before .args .cert .now) in let image = c .before .before .before .before .before .before .before .before .before .before .args .image .now in decide-yes (rule20 C image) (rule20-join C image (decide-true (fixedRule C image) (c .before .before .before .before .before .before .before .fixed-rule .ensures) (not-false _ (c .before .before .before .before .before .before .if1 .left))) (decide-true (cellsRule C) (c .before .before .before .before .before .cells-rule .ensures) (not-false _ (c .before .before .before .before .if2 .left))) (decide-true (startsRule C) (c .before .before .before .starts-rule .ensures) (not-false _ (c .before .before .if3 .left))) (decide-true (addressesRule C) (c .before .addresses-rule .ensures) (not-false _ (c .if4 .left))))
+returns-5 c =
+    let C = certificateOf (c .before .before .before .before .before .before .before .before .before .before .args .cert .now) in
+    let image = c .before .before .before .before .before .before .before .before .before .before .args .image .now in
+    decide-yes (rule20 C image) (rule20-join C image (decide-true (fixedRule C image) (c .before .before .before .before .before .before .before .fixed-rule .ensures) (not-false _ (c .before .before .before .before .before .before .if1 .left))) (decide-true (cellsRule C) (c .before .before .before .before .before .cells-rule .ensures) (not-false _ (c .before .before .before .before .if2 .left))) (decide-true (startsRule C) (c .before .before .before .starts-rule .ensures) (not-false _ (c .before .before .if3 .left))) (decide-true (addressesRule C) (c .before .addresses-rule .ensures) (not-false _ (c .if4 .left))))
 
 pub rule20-spec : {M : Type 1} → statement M
 rule20-spec =

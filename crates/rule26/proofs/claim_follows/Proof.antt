@@ -12,7 +12,15 @@ use Rattle.rule26.proofs.claim_follows.Tie as tie
 
 returns : tie.Need-returns
 unfolding claimFollows
-returns c = let g = c .before .before .before .args in let C = certificateOf (g .cert .now) in let a = g .a .0 in let x = g .k .cell .0 in let l = g .k .low in let h = g .k .high in let e = edgeOf (g .e) in decide-yes (claimFollows C a e (g .w) x l h) (λ m. absurd (m (c .if1 .taken)))
+returns c =
+    let g = c .before .before .before .args in
+    let C = certificateOf (g .cert .now) in
+    let a = g .a .0 in
+    let x = g .k .cell .0 in
+    let l = g .k .low in
+    let h = g .k .high in
+    let e = edgeOf (g .e) in
+    decide-yes (claimFollows C a e (g .w) x l h) (λ m. absurd (m (c .if1 .taken)))
 
 change-of-requires : tie.Need-change-of-requires
 change-of-requires c κs = search needs
@@ -22,7 +30,15 @@ change-follows-requires c κs = search needs
 
 returns-2 : tie.Need-returns-2
 unfolding claimFollows
-returns-2 c = let g = c .before .before .before .before .before .args in let C = certificateOf (g .cert .now) in let a = g .a .0 in let x = g .k .cell .0 in let l = g .k .low in let h = g .k .high in let e = edgeOf (g .e) in decide-step (present x) (follows C a e (changeOf C a (g .w) x) x l h) (c .before .before .if1 .left) (c .change-follows .ensures ∙ ap (λ (t : rules.Change C). decide (follows C a e t x l h)) (c .before .change-of .ensures))
+returns-2 c =
+    let g = c .before .before .before .before .before .args in
+    let C = certificateOf (g .cert .now) in
+    let a = g .a .0 in
+    let x = g .k .cell .0 in
+    let l = g .k .low in
+    let h = g .k .high in
+    let e = edgeOf (g .e) in
+    decide-step (present x) (follows C a e (changeOf C a (g .w) x) x l h) (c .before .before .if1 .left) (c .change-follows .ensures ∙ ap (λ (t : rules.Change C). decide (follows C a e t x l h)) (c .before .change-of .ensures))
 
 pub claim-follows-spec : {M : Type 1} → statement M
 claim-follows-spec =

@@ -32,7 +32,12 @@ after-callee-requires : tie.Need-after-callee-requires
 after-callee-requires c κs = search needs
 
 returns : tie.Need-returns
-returns c = let g = c .before .before .before .before .before .before .before .before .before .before .args in let C = certificateOf (g .cert .now) in let a = g .a .0 in let k = c .before .before .before .before .same-first .result && ltb (c .before .before .before .before .before .cell-row .result .limit) (c .before .before .before .before .before .before .before .before .entry-at .result .routine) in λ n. ap (λ (f : After). afterOf f n) (c .after-callee .ensures) ∙ after-call C a (g .next .0) (g .t .0) k (c .before .before .before .before .before .before .before .routine-row .result .bound) (c .before .entry-at3 .result) n (simp (c .before .before .before .before .same-first .ensures, c .before .before .before .before .before .cell-row .ensures, c .before .before .before .before .before .before .entry-at2 .ensures, c .before .before .before .before .before .before .before .before .entry-at .ensures)) (simp (c .before .before .before .before .before .before .before .routine-row .ensures, c .before .before .before .before .before .before .before .before .entry-at .ensures)) (c .before .entry-at3 .ensures)
+returns c =
+    let g = c .before .before .before .before .before .before .before .before .before .before .args in
+    let C = certificateOf (g .cert .now) in
+    let a = g .a .0 in
+    let k = c .before .before .before .before .same-first .result && ltb (c .before .before .before .before .before .cell-row .result .limit) (c .before .before .before .before .before .before .before .before .entry-at .result .routine) in
+    λ n. ap (λ (f : After). afterOf f n) (c .after-callee .ensures) ∙ after-call C a (g .next .0) (g .t .0) k (c .before .before .before .before .before .before .before .routine-row .result .bound) (c .before .entry-at3 .result) n (simp (c .before .before .before .before .same-first .ensures, c .before .before .before .before .before .cell-row .ensures, c .before .before .before .before .before .before .entry-at2 .ensures, c .before .before .before .before .before .before .before .before .entry-at .ensures)) (simp (c .before .before .before .before .before .before .before .routine-row .ensures, c .before .before .before .before .before .before .before .before .entry-at .ensures)) (c .before .entry-at3 .ensures)
 
 pub after-call-spec : {M : Type 1} → statement M
 after-call-spec =

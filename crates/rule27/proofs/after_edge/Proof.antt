@@ -18,7 +18,11 @@ same-first-requires : tie.Need-same-first-requires
 same-first-requires c κs = search needs
 
 returns : tie.Need-returns
-returns c = let g = c .before .before .before .before .args in let C = certificateOf (g .cert .now) in let a = g .a .0 in λ n. after-worst C (g .t .0) a (g .w) (c .before .before .entry-at .result) (c .before .before .entry-at .ensures) n (sym (c .before .same-first .ensures) ∙ not-true _ (c .if1 .taken))
+returns c =
+    let g = c .before .before .before .before .args in
+    let C = certificateOf (g .cert .now) in
+    let a = g .a .0 in
+    λ n. after-worst C (g .t .0) a (g .w) (c .before .before .entry-at .result) (c .before .before .entry-at .ensures) n (sym (c .before .same-first .ensures) ∙ not-true _ (c .if1 .taken))
 
 entry-at-requires-2 : tie.Need-entry-at-requires-2
 entry-at-requires-2 c κs = search needs
@@ -30,7 +34,11 @@ along-requires : tie.Need-along-requires
 along-requires c κs = search needs
 
 returns-2 : tie.Need-returns-2
-returns-2 c = let g = c .before .before .before .before .before .before .before .args in let C = certificateOf (g .cert .now) in let a = g .a .0 in λ n. ap (λ (f : After). afterOf f n) (c .along .ensures) ∙ after-along C (g .t .0) a (g .w) (c .before .before .before .before .before .entry-at .result) (c .before .before .before .before .before .entry-at .ensures) n (c .before .change-of .result) (sym (c .before .before .before .before .same-first .ensures) ∙ not-false _ (c .before .before .before .if1 .left)) (c .before .change-of .ensures ∙ ap (λ (e : Entry). changeOf C a (g .w) (e .first .cell .0)) (c .before .before .entry-at2 .ensures))
+returns-2 c =
+    let g = c .before .before .before .before .before .before .before .args in
+    let C = certificateOf (g .cert .now) in
+    let a = g .a .0 in
+    λ n. ap (λ (f : After). afterOf f n) (c .along .ensures) ∙ after-along C (g .t .0) a (g .w) (c .before .before .before .before .before .entry-at .result) (c .before .before .before .before .before .entry-at .ensures) n (c .before .change-of .result) (sym (c .before .before .before .before .same-first .ensures) ∙ not-false _ (c .before .before .before .if1 .left)) (c .before .change-of .ensures ∙ ap (λ (e : Entry). changeOf C a (g .w) (e .first .cell .0)) (c .before .before .entry-at2 .ensures))
 
 pub after-edge-spec : {M : Type 1} → statement M
 after-edge-spec =

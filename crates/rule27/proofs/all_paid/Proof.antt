@@ -36,7 +36,13 @@ paid-at-requires c κs = search needs
 
 returns : tie.Need-returns Inv-loop μ-loop
 unfolding among allPaid
-returns c = let g = c .before .before .before .before .before .before .args in let s = g .s in let e = g .e in let k = g .cost in let f = g .f in decide-no (allPaid s e k f) (λ m. decide-false (paidAt s e k f (c .before .before .before .loop .v)) (c .before .paid-at .ensures) (not-true _ (c .if1 .taken)) (m (c .before .before .before .loop .v) (omega arith)))
+returns c =
+    let g = c .before .before .before .before .before .before .args in
+    let s = g .s in
+    let e = g .e in
+    let k = g .cost in
+    let f = g .f in
+    decide-no (allPaid s e k f) (λ m. decide-false (paidAt s e k f (c .before .before .before .loop .v)) (c .before .paid-at .ensures) (not-true _ (c .if1 .taken)) (m (c .before .before .before .loop .v) (omega arith)))
 
 add-v : tie.Need-add-v Inv-loop μ-loop
 add-v c = omega arith
@@ -45,11 +51,23 @@ loop-less : tie.Need-loop-less Inv-loop μ-loop
 loop-less c = omega arith
 
 loop-again : tie.Need-loop-again Inv-loop μ-loop
-loop-again c = let g = c .before .before .before .before .before .before .args in let s = g .s in let e = g .e in let k = g .cost in let f = g .f in (omega arith, c .before .before .before .loop .inv .1, below-more _ _ (c .before .before .before .loop .inv .2) (decide-true (paidAt s e k f (c .before .before .before .loop .v)) (c .before .paid-at .ensures) (not-false _ (c .if1 .left))))
+loop-again c =
+    let g = c .before .before .before .before .before .before .args in
+    let s = g .s in
+    let e = g .e in
+    let k = g .cost in
+    let f = g .f in
+    (omega arith, c .before .before .before .loop .inv .1, below-more _ _ (c .before .before .before .loop .inv .2) (decide-true (paidAt s e k f (c .before .before .before .loop .v)) (c .before .paid-at .ensures) (not-false _ (c .if1 .left))))
 
 returns-2 : tie.Need-returns-2 Inv-loop μ-loop
 unfolding among allPaid
-returns-2 c = let g = c .before .before .before .before .args in let s = g .s in let e = g .e in let k = g .cost in let f = g .f in decide-yes (allPaid s e k f) (λ x hx. ⊎-elim (λ (q : c .before .loop .v ≤ x) m. absurd (omega (arith, m .1 .0))) (λ (q : x < c .before .loop .v). c .before .loop .inv .2 x q) (le? (c .before .loop .v) x))
+returns-2 c =
+    let g = c .before .before .before .before .args in
+    let s = g .s in
+    let e = g .e in
+    let k = g .cost in
+    let f = g .f in
+    decide-yes (allPaid s e k f) (λ x hx. ⊎-elim (λ (q : c .before .loop .v ≤ x) m. absurd (omega (arith, m .1 .0))) (λ (q : x < c .before .loop .v). c .before .loop .inv .2 x q) (le? (c .before .loop .v) x))
 
 pub all-paid-spec : {M : Type 1} → statement M
 all-paid-spec =

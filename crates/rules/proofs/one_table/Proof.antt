@@ -22,7 +22,12 @@ cell-row-requires c κs = search needs
 
 returns : tie.Need-returns Inv-loop μ-loop
 unfolding oneTable
-returns c = let g = c .before .before .before .before .args in let C = certificateOf (g .cert .now) in let a = g .a .0 in let F = oneTable C a (g .from) (g .upto) (g .writing) in decide-no F (λ m. m .0 (sym (ap (λ (r : CellRow). r .table) (c .before .before .cell-row .ensures)) ∙ c .if1 .taken))
+returns c =
+    let g = c .before .before .before .before .args in
+    let C = certificateOf (g .cert .now) in
+    let a = g .a .0 in
+    let F = oneTable C a (g .from) (g .upto) (g .writing) in
+    decide-no F (λ m. m .0 (sym (ap (λ (r : CellRow). r .table) (c .before .before .cell-row .ensures)) ∙ c .if1 .taken))
 
 loop-holds : tie.Need-loop-holds Inv-loop μ-loop
 loop-holds c = (omega arith, omega arith, refl, λ k hk h. absurd (omega arith))
@@ -35,7 +40,12 @@ in-table-requires c κs = search needs
 
 returns-2 : tie.Need-returns-2 Inv-loop μ-loop
 unfolding oneTable
-returns-2 c = let g = c .before .before .before .before .before .before .before .before .args in let C = certificateOf (g .cert .now) in let a = g .a .0 in let F = oneTable C a (g .from) (g .upto) (g .writing) in decide-no F (λ m. decide-false (inTable C a (g .from) (g .writing) (c .before .before .before .loop .x)) (c .before .in-table .ensures) (not-true _ (c .if2 .taken)) (m .1 (c .before .before .before .loop .x) (omega arith) (c .before .before .before .loop .inv .0, omega arith)))
+returns-2 c =
+    let g = c .before .before .before .before .before .before .before .before .args in
+    let C = certificateOf (g .cert .now) in
+    let a = g .a .0 in
+    let F = oneTable C a (g .from) (g .upto) (g .writing) in
+    decide-no F (λ m. decide-false (inTable C a (g .from) (g .writing) (c .before .before .before .loop .x)) (c .before .in-table .ensures) (not-true _ (c .if2 .taken)) (m .1 (c .before .before .before .loop .x) (omega arith) (c .before .before .before .loop .inv .0, omega arith)))
 
 add-x : tie.Need-add-x Inv-loop μ-loop
 add-x c = omega arith
@@ -44,11 +54,20 @@ loop-less : tie.Need-loop-less Inv-loop μ-loop
 loop-less c = omega arith
 
 loop-again : tie.Need-loop-again Inv-loop μ-loop
-loop-again c = let g = c .before .before .before .before .before .before .before .before .args in let C = certificateOf (g .cert .now) in let a = g .a .0 in (omega arith, omega arith, c .before .before .before .loop .inv .2, below-more _ _ (c .before .before .before .loop .inv .3) (λ h. decide-true (inTable C a (g .from) (g .writing) (c .before .before .before .loop .x)) (c .before .in-table .ensures) (not-false _ (c .if2 .left))))
+loop-again c =
+    let g = c .before .before .before .before .before .before .before .before .args in
+    let C = certificateOf (g .cert .now) in
+    let a = g .a .0 in
+    (omega arith, omega arith, c .before .before .before .loop .inv .2, below-more _ _ (c .before .before .before .loop .inv .3) (λ h. decide-true (inTable C a (g .from) (g .writing) (c .before .before .before .loop .x)) (c .before .in-table .ensures) (not-false _ (c .if2 .left))))
 
 returns-3 : tie.Need-returns-3 Inv-loop μ-loop
 unfolding oneTable
-returns-3 c = let g = c .before .before .before .before .before .before .args in let C = certificateOf (g .cert .now) in let a = g .a .0 in let F = oneTable C a (g .from) (g .upto) (g .writing) in decide-yes F (λ z. c .before .before .if1 .left (ap (λ (r : CellRow). r .table) (c .before .before .before .before .cell-row .ensures) ∙ z), λ k hk m. c .before .loop .inv .3 k (omega (arith, m .1)) (m .0))
+returns-3 c =
+    let g = c .before .before .before .before .before .before .args in
+    let C = certificateOf (g .cert .now) in
+    let a = g .a .0 in
+    let F = oneTable C a (g .from) (g .upto) (g .writing) in
+    decide-yes F (λ z. c .before .before .if1 .left (ap (λ (r : CellRow). r .table) (c .before .before .before .before .cell-row .ensures) ∙ z), λ k hk m. c .before .loop .inv .3 k (omega (arith, m .1)) (m .0))
 
 pub one-table-spec : {M : Type 1} → statement M
 one-table-spec =

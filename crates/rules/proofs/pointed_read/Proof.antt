@@ -25,7 +25,11 @@ returns-2 : tie.Need-returns-2
 returns-2 c = search needs
 
 returns-3 : tie.Need-returns-3
-returns-3 c = let g = c .before .before .before .before .before .args in let C = certificateOf (g .cert .now) in let k = c .before .before .x .given in rw (k .1) (c .reach .ensures ∙ reach-read C (g .a .0) (k .0 .0 .0) (k .0 .1 .0))
+returns-3 c =
+    let g = c .before .before .before .before .before .args in
+    let C = certificateOf (g .cert .now) in
+    let k = c .before .before .x .given in
+    rw (k .1) (c .reach .ensures ∙ reach-read C (g .a .0) (k .0 .0 .0) (k .0 .1 .0))
 
 pub pointed-read-spec : {M : Type 1} → statement M
 pointed-read-spec =

@@ -28,7 +28,11 @@ returns-2 : tie.Need-returns-2
 returns-2 c = search needs
 
 returns-3 : tie.Need-returns-3
-returns-3 c = let g = c .before .before .before .before .before .args in let C = certificateOf (g .cert .now) in let k = c .before .before .w .given in rw (k .1) (c .reach .ensures ∙ reach-write C (g .a .0) (k .0 .0 .0) (k .0 .1 .0))
+returns-3 c =
+    let g = c .before .before .before .before .before .args in
+    let C = certificateOf (g .cert .now) in
+    let k = c .before .before .w .given in
+    rw (k .1) (c .reach .ensures ∙ reach-write C (g .a .0) (k .0 .0 .0) (k .0 .1 .0))
 
 returns-4 : tie.Need-returns-4
 returns-4 c = search needs

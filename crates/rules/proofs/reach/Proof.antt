@@ -35,15 +35,39 @@ claimed-requires c κs = search needs
 
 returns : tie.Need-returns
 unfolding reach oneTable
-returns c = let g = c .before .before .before .before .before .args in let C = certificateOf (g .cert .now) in let a = g .a .0 in let p = g .p .0 in let o = g .o in let w = g .writing in let F = reach C a p o (touched C a w) in decide-no F (λ m. decide-false (claimed C a p) (c .before .claimed .ensures) (not-true _ (c .if1 .taken)) (m .0))
+returns c =
+    let g = c .before .before .before .before .before .args in
+    let C = certificateOf (g .cert .now) in
+    let a = g .a .0 in
+    let p = g .p .0 in
+    let o = g .o in
+    let w = g .writing in
+    let F = reach C a p o (touched C a w) in
+    decide-no F (λ m. decide-false (claimed C a p) (c .before .claimed .ensures) (not-true _ (c .if1 .taken)) (m .0))
 
 returns-2 : tie.Need-returns-2
 unfolding reach oneTable
-returns-2 c = let g = c .before .before .before .before .before .before .args in let C = certificateOf (g .cert .now) in let a = g .a .0 in let p = g .p .0 in let o = g .o in let w = g .writing in let F = reach C a p o (touched C a w) in decide-no F (λ m. omega (arith, m .1 .0))
+returns-2 c =
+    let g = c .before .before .before .before .before .before .args in
+    let C = certificateOf (g .cert .now) in
+    let a = g .a .0 in
+    let p = g .p .0 in
+    let o = g .o in
+    let w = g .writing in
+    let F = reach C a p o (touched C a w) in
+    decide-no F (λ m. omega (arith, m .1 .0))
 
 returns-3 : tie.Need-returns-3
 unfolding reach oneTable
-returns-3 c = let g = c .before .before .before .before .before .before .before .args in let C = certificateOf (g .cert .now) in let a = g .a .0 in let p = g .p .0 in let o = g .o in let w = g .writing in let F = reach C a p o (touched C a w) in decide-no F (λ m. m .1 .1 .0 (table-outside _ _ (omega arith)))
+returns-3 c =
+    let g = c .before .before .before .before .before .before .before .args in
+    let C = certificateOf (g .cert .now) in
+    let a = g .a .0 in
+    let p = g .p .0 in
+    let o = g .o in
+    let w = g .writing in
+    let F = reach C a p o (touched C a w) in
+    decide-no F (λ m. m .1 .1 .0 (table-outside _ _ (omega arith)))
 
 cast-one-table : tie.Need-cast-one-table
 cast-one-table c = search needs
@@ -56,7 +80,17 @@ one-table-requires c κs = search needs
 
 returns-4 : tie.Need-returns-4
 unfolding reach oneTable
-returns-4 c = let g = c .before .before .before .before .before .before .before .before .args in let C = certificateOf (g .cert .now) in let a = g .a .0 in let p = g .p .0 in let o = g .o in let w = g .writing in let F = reach C a p o (touched C a w) in let l = c .before .before .before .before .before .before .low .result in let h = c .before .before .before .before .before .high .result in c .one-table .ensures ∙ ap (λ (n : ℕ). decide (oneTable C a (n + o) (h + o) w)) (c .before .before .before .before .before .before .low .ensures) ∙ ap (λ (n : ℕ). decide (oneTable C a (low C a p + o) (n + o) w)) (c .before .before .before .before .before .high .ensures) ∙ decide-same (oneTable C a (low C a p + o) (high C a p + o) w) F (λ t. (decide-true (claimed C a p) (c .before .before .before .before .claimed .ensures) (not-false _ (c .before .before .before .if1 .left)), (omega arith, (t .0, t .1)))) (λ m. (m .1 .1 .0, m .1 .1 .1))
+returns-4 c =
+    let g = c .before .before .before .before .before .before .before .before .args in
+    let C = certificateOf (g .cert .now) in
+    let a = g .a .0 in
+    let p = g .p .0 in
+    let o = g .o in
+    let w = g .writing in
+    let F = reach C a p o (touched C a w) in
+    let l = c .before .before .before .before .before .before .low .result in
+    let h = c .before .before .before .before .before .high .result in
+    c .one-table .ensures ∙ ap (λ (n : ℕ). decide (oneTable C a (n + o) (h + o) w)) (c .before .before .before .before .before .before .low .ensures) ∙ ap (λ (n : ℕ). decide (oneTable C a (low C a p + o) (n + o) w)) (c .before .before .before .before .before .high .ensures) ∙ decide-same (oneTable C a (low C a p + o) (high C a p + o) w) F (λ t. (decide-true (claimed C a p) (c .before .before .before .before .claimed .ensures) (not-false _ (c .before .before .before .if1 .left)), (omega arith, (t .0, t .1)))) (λ m. (m .1 .1 .0, m .1 .1 .1))
 
 pub reach-spec : {M : Type 1} → statement M
 reach-spec =

@@ -1,0 +1,65 @@
+-- `main`: what was written is within the buffer.
+-- Assumes nothing.
+use mathlib.Core.Path.{sym}
+use Prim.Native.Nat.{_≤_}
+use native.Mathlib.Omega.{arith}
+use lib.ListN.{length}
+use lib.Seq.{length-take-le}
+use Rattle.files.specs.ReadingLaws.{judges-within}
+use borrow.Author.Needs.{needs}
+use Rattle.bridgecheck.proofs.main.Statement.{statement}
+use Rattle.bridgecheck.proofs.main.Tie as tie
+
+slice-aggregate-judge-files : tie.Need-slice-aggregate-judge-files
+slice-aggregate-judge-files c = search needs
+
+slice-aggregate-judge-files-2 : tie.Need-slice-aggregate-judge-files-2
+slice-aggregate-judge-files-2 c = search needs
+
+slice-aggregate-judge-files-3 : tie.Need-slice-aggregate-judge-files-3
+slice-aggregate-judge-files-3 c = search needs
+
+judge-files-requires : tie.Need-judge-files-requires
+judge-files-requires c κs = search needs
+
+enum-known-n : tie.Need-enum-known-n
+enum-known-n c = search needs
+
+array-share-prefix-out : tie.Need-array-share-prefix-out
+array-share-prefix-out c =
+    omega (arith, judges-within (rw (c .before .n .given .1) at (c .before .before .before .before .judge-files .ensures)), c .before .before .before .before .judge-files .kept .1 .1 .0)
+
+slice-aggregate-write-all : tie.Need-slice-aggregate-write-all
+slice-aggregate-write-all c = let after = c .before .before .before .before .before .judge-files .last .1 .1 .0 in
+    let n = c .before .before .n .given .0 .0 in
+    let h : n ≤ length after =
+    omega (arith, judges-within (rw (c .before .before .n .given .1) at (c .before .before .before .before .before .judge-files .ensures)), c .before .before .before .before .before .judge-files .kept .1 .1 .0) in
+    sym (length-take-le n after h)
+
+write-all-requires : tie.Need-write-all-requires
+write-all-requires c κs = search needs
+
+enum-told : tie.Need-enum-told
+enum-told c = search needs
+
+returns : tie.Need-returns
+returns c = search needs
+
+returns-2 : tie.Need-returns-2
+returns-2 c = search needs
+
+pub main-spec : {M : Type 1} → statement M
+main-spec =
+    tie.close
+    (tie.spec
+    slice-aggregate-judge-files
+    slice-aggregate-judge-files-2
+    slice-aggregate-judge-files-3
+    judge-files-requires
+    enum-known-n
+    array-share-prefix-out
+    slice-aggregate-write-all
+    write-all-requires
+    enum-told
+    returns
+    returns-2)

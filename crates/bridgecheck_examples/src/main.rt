@@ -1,0 +1,79 @@
+// Prints the names of an image file and a certificate file and their judgement, for each case.
+use hex_write::Written;
+use libc::STDOUT_FILENO;
+
+fn print(text: &[u8]) {
+    io::write_all(STDOUT_FILENO, text);
+}
+
+fn example(image_name: &[u8], certificate_name: &[u8]) {
+    print(image_name);
+    print(b" ");
+    print(certificate_name);
+    print(b"\n");
+    let mut out = [0u8; 1143];
+    match files::judge_files(image_name, certificate_name, &mut out) {
+        Written::Bytes(n) => {
+            print(&out[..n]);
+        }
+        Written::WrongLength => {}
+    }
+}
+
+// Too short a buffer: 7.
+fn example_of_length(image_name: &[u8], certificate_name: &[u8]) {
+    let mut out = [0u8; 1142];
+    match files::judge_files(image_name, certificate_name, &mut out) {
+        Written::Bytes(_) => {
+            print(b"written\n");
+        }
+        Written::WrongLength => {
+            print(b"7 for a buffer of 1142 bytes\n");
+        }
+    }
+}
+
+// The cases of image P.
+fn p_examples() {
+    example(b"p_image.hex", b"p_cert.hex");
+    example(b"ule_image.hex", b"p_cert.hex");
+    example(b"p_image.hex", b"bound_363_cert.hex");
+    example(b"p_image.hex", b"floor_bb_cert.hex");
+    example(b"p_image.hex", b"floor_bc_cert.hex");
+}
+
+// Missing, empty, unreadable and cut files.
+fn absent_examples() {
+    example(b"missing.hex", b"p_cert.hex");
+    example(b"p_image.hex", b"missing.hex");
+    example(b"missing.hex", b"missing.hex");
+    example(b"empty.hex", b"p_cert.hex");
+    example(b".", b"p_cert.hex");
+    example(b"no_end_image.hex", b"p_cert.hex");
+}
+
+// Refused lines; the image decides.
+fn refused_examples() {
+    example(b"bad_sum_image.hex", b"p_cert.hex");
+    example(b"long_line_image.hex", b"p_cert.hex");
+    example(b"p_image.hex", b"past_end_cert.hex");
+    example(b"bad_sum_image.hex", b"past_end_cert.hex");
+    example(b"no_end_image.hex", b"past_end_cert.hex");
+}
+
+// Other line ends and letter cases, larger programs, too short a buffer.
+fn other_examples() {
+    example(b"crlf_image.hex", b"crlf_cert.hex");
+    example(b"lower_image.hex", b"lower_cert.hex");
+    example(b"logger_image.hex", b"logger_cert.hex");
+    example(b"overrun_image.hex", b"overrun_cert.hex");
+    example(b"overrun_image.hex", b"logger_cert.hex");
+    example_of_length(b"p_image.hex", b"p_cert.hex");
+}
+
+fn main() {
+    p_examples();
+    absent_examples();
+    refused_examples();
+    other_examples();
+}

@@ -1,0 +1,51 @@
+-- `read_file`: by what its callees promise.
+-- Assumes nothing.
+use denote.Ref.{now}
+use mathlib.Core.Path.{refl}
+use Rattle.files.specs.ReadingLaws.{reads-none}
+use borrow.Author.Needs.{needs}
+use Rattle.files.proofs.read_file.Statement.{statement}
+use Rattle.files.proofs.read_file.Tie as tie
+
+open-read-requires : tie.Need-open-read-requires
+open-read-requires c κs = search needs
+
+start-requires : tie.Need-start-requires
+start-requires c κs = search needs
+
+finish-requires : tie.Need-finish-requires
+finish-requires c κs = search needs
+
+same-length : tie.Need-same-length
+same-length c = search needs
+
+returns : tie.Need-returns
+returns c =
+    reads-none (now (c .before .before .before .before .before .before .before .before .before .args .buffer)) refl
+    (rw (c .before .before .before .before .start .ensures) at (c .before .before .finish .ensures .0))
+
+read-open-requires : tie.Need-read-open-requires
+read-open-requires c κs = search needs
+
+close-requires : tie.Need-close-requires
+close-requires c κs = search needs
+
+same-length-2 : tie.Need-same-length-2
+same-length-2 c = search needs
+
+returns-2 : tie.Need-returns-2
+returns-2 c = search needs
+
+pub read-file-spec : {M : Type 1} → statement M
+read-file-spec =
+    tie.close
+    (tie.spec
+    open-read-requires
+    start-requires
+    finish-requires
+    same-length
+    returns
+    read-open-requires
+    close-requires
+    same-length-2
+    returns-2)

@@ -1,0 +1,3 @@
+pub mod Report
+pub mod Stored
+pub mod ReportLaws
