@@ -4,6 +4,9 @@ use mathlib.Core.Path.{_≡_, refl, sym, _∙_, ap}
 use mathlib.Core.Bool.{Bool, true, false}
 use mathlib.Core.List.{List, [], _∷_, _++_}
 use Prim.Native.Nat.{ℕ}
+use Prim.Native.Char.{code}
+use Prim.Native.String.{String}
+use Prim.Native.String as text
 use lib.ListN.{length, getD, replicate, set}
 use Rattle.base.specs.Addresses.{romAddr}
 use Rattle.base.specs.Choice.{pick, choose}
@@ -18,8 +21,9 @@ use Rattle.semantics.specs.declared.State.{State}
 use Rattle.semantics.specs.Step.{stepOf}
 use Rattle.certificate.specs.declared.Verdict.{Verdict}
 use Rattle.certificate.specs.declared.Verdict.the-variants.{Accepted, Refused}
-use Rattle.certificate.specs.Layout.{certificateFrom, certificateOf}
+use Rattle.certificate.specs.Layout.{Certificate, certificateFrom, certificateOf}
 use Rattle.safety.specs.Verdicts.{verdictOn, verdictOf}
+use Rattle.report.specs.Report.{reportText}
 use Rattle.logger_cases.specs.Gathered.{upTo, certificateBytes, bytes-length, certificate-is}
 use Rattle.logger_cases.specs.Program.{imageWith, entry, cell, row, certificateWith, entry-length, cell-length, row-length}
 use Rattle.logger_cases.specs.Opened.{opened}
@@ -32,6 +36,11 @@ callImage = replicate 0xA47 0xFF ++ (0xF6 ∷ 0x05 ∷ 0x21 ∷ replicate 1462 0
 unfoldable pub stateAt : ℕ → ℕ → State
 stateAt pc sp = record { regs = set (replicate 256 0) 0xD9 sp; pc = romAddr pc; mode = Running; cycles = 0 }
 
+-- a text's characters by their numbers
+abbrev pub ascii : String → List ℕ
+ascii text.[] = []
+ascii (text._∷_ c s) = code c ∷ ascii s
+
 pub data Case : Type 0 where
   -- an operation on two bytes, with the carry before: its value and flags
   operates : Alu → ℕ → ℕ → Bool → ℕ → FlagUpdate → Case
@@ -41,15 +50,23 @@ pub data Case : Type 0 where
   steps : List ℕ → ℕ → ℕ → ℕ → ℕ → Case
   -- a register that holds a byte is written: what it then holds
   stores : ℕ → ℕ → ℕ → ℕ → Case
-  -- the verdict on an image and a certificate
-  judges : List ℕ → List ℕ → Verdict → Case
+  -- the verdict on an image and a certificate, and the whole text that is printed
+  judges : List ℕ → List ℕ → Verdict → String → Case
 
 abbrev pub CaseHolds : Case → Type 0
 CaseHolds (operates op x y c v f) = operate op x y c ≡ record { value = v; flags = f }
 CaseHolds (modifies op x v f) = (c : Bool) → modify op x c ≡ record { value = v; flags = f }
 CaseHolds (steps image pc sp a v) = (stepOf image (stateAt pc sp) (replicate 8 0) .stop ≡ 0) × (getD (stepOf image (stateAt pc sp) (replicate 8 0) .state .regs) a 0 ≡ v)
 CaseHolds (stores a old v new) = keptOf a old v ≡ new
-CaseHolds (judges image cert v) = verdictOf image cert ≡ v
+CaseHolds (judges image cert v s) = (verdictOf image cert ≡ v) × (reportText (verdictOf image cert) (certificateOf cert) ≡ ascii s)
+
+-- what is printed of image P
+abbrev pub printedP : String
+printedP = "accepted\n1 0100 2 0\n2 0140 0 10\n3 0120 0 364\n"
+
+-- image P with this floor is accepted
+abbrev pub acceptedP : ℕ → Case
+acceptedP floor = judges (imageWith 0x7B) (certificateWith 364 floor) Accepted printedP
 
 abbrev pub AllHold : List Case → Type 0
 AllHold [] = Unit {0}
@@ -76,50 +93,60 @@ cases =
     -- (h) E8H at 0FH, written 0EH: 0EH
     ∷ stores 0xE8 0x0F 0x0E 0x0E
     -- (i) image P
-    ∷ judges (imageWith 0x7B) (certificateWith 364 0xA0) Accepted
+    ∷ acceptedP 0xA0
     -- (j) 0128H changed to 3B
-    ∷ judges (imageWith 0x3B) (certificateWith 364 0xA0) (Refused 26 (romAddr 0x128))
+    ∷ judges (imageWith 0x3B) (certificateWith 364 0xA0) (Refused 26 (romAddr 0x128)) "refused 26 0128\n"
     -- (k) bound 363
-    ∷ judges (imageWith 0x7B) (certificateWith 363 0xA0) (Refused 27 (romAddr 0x120))
+    ∷ judges (imageWith 0x7B) (certificateWith 363 0xA0) (Refused 27 (romAddr 0x120)) "refused 27 0120\n"
     -- (l) F BBH accepted, BCH refused
-    ∷ judges (imageWith 0x7B) (certificateWith 364 0xBB) Accepted
-    ∷ judges (imageWith 0x7B) (certificateWith 364 0xBC) (Refused 25 (romAddr 0x100))
+    ∷ acceptedP 0xBB
+    ∷ judges (imageWith 0x7B) (certificateWith 364 0xBC) (Refused 25 (romAddr 0x100)) "refused 25 0100\n"
     ∷ []
 
 image-length : (j : ℕ) → length (imageWith j) ≡ 4096
 unfolding imageWith
 image-length j = refl
 
--- the verdict on the bytes is that on the tables
-on-tables : (j bound floor : ℕ) → verdictOf (imageWith j) (certificateWith bound floor)
-    ≡ verdictOn (certificateFrom (upTo 4096 entry) (upTo 256 cell) (upTo 64 (row bound)) floor 0xC0) (imageWith j)
+-- the certificate, and the verdict, computed on tables instead of bytes
+abbrev tables : ℕ → ℕ → Certificate
+tables bound floor = certificateFrom (upTo 4096 entry) (upTo 256 cell) (upTo 64 (row bound)) floor 0xC0
+
+certificate-tables : (bound floor : ℕ) → certificateOf (certificateWith bound floor) ≡ tables bound floor
+unfolding certificateWith
+certificate-tables bound floor = certificate-is entry cell (row bound) floor 0xC0 entry-length cell-length (row-length bound)
+
+verdict-tables : (j bound floor : ℕ) → verdictOf (imageWith j) (certificateWith bound floor) ≡ verdictOn (tables bound floor) (imageWith j)
 unfolding verdictOf certificateWith
-on-tables j bound floor =
+verdict-tables j bound floor =
     rw (image-length j, bytes-length entry cell (row bound) floor 0xC0 entry-length cell-length (row-length bound), certificate-is entry cell (row bound) floor 0xC0 entry-length cell-length (row-length bound))
 
--- computed on the tables
-abbrev tables : ℕ → ℕ → ℕ → Verdict
-tables j bound floor = verdictOn (certificateFrom (upTo 4096 entry) (upTo 256 cell) (upTo 64 (row bound)) floor 0xC0) (imageWith j)
+on-tables : (j bound floor : ℕ) (v : Verdict) (s : String) → verdictOn (tables bound floor) (imageWith j) ≡ v → reportText v (tables bound floor) ≡ ascii s
+    → CaseHolds (judges (imageWith j) (certificateWith bound floor) v s)
+on-tables j bound floor v s p q = (
+  verdict-tables j bound floor ∙ p,
+  ap (λ w. reportText w (certificateOf (certificateWith bound floor))) (verdict-tables j bound floor ∙ p)
+      ∙ ap (reportText v) (certificate-tables bound floor) ∙ q,
+)
 
-case-i : tables 0x7B 364 0xA0 ≡ Accepted
+case-i : CaseHolds (acceptedP 0xA0)
 unfolding opened
-case-i = refl
+case-i = on-tables 0x7B 364 0xA0 Accepted printedP refl refl
 
-case-j : tables 0x3B 364 0xA0 ≡ Refused 26 (romAddr 0x128)
+case-j : CaseHolds (judges (imageWith 0x3B) (certificateWith 364 0xA0) (Refused 26 (romAddr 0x128)) "refused 26 0128\n")
 unfolding opened
-case-j = refl
+case-j = on-tables 0x3B 364 0xA0 (Refused 26 (romAddr 0x128)) "refused 26 0128\n" refl refl
 
-case-k : tables 0x7B 363 0xA0 ≡ Refused 27 (romAddr 0x120)
+case-k : CaseHolds (judges (imageWith 0x7B) (certificateWith 363 0xA0) (Refused 27 (romAddr 0x120)) "refused 27 0120\n")
 unfolding opened
-case-k = refl
+case-k = on-tables 0x7B 363 0xA0 (Refused 27 (romAddr 0x120)) "refused 27 0120\n" refl refl
 
-case-l : tables 0x7B 364 0xBB ≡ Accepted
+case-l : CaseHolds (acceptedP 0xBB)
 unfolding opened
-case-l = refl
+case-l = on-tables 0x7B 364 0xBB Accepted printedP refl refl
 
-case-l-refused : tables 0x7B 364 0xBC ≡ Refused 25 (romAddr 0x100)
+case-l-refused : CaseHolds (judges (imageWith 0x7B) (certificateWith 364 0xBC) (Refused 25 (romAddr 0x100)) "refused 25 0100\n")
 unfolding opened
-case-l-refused = refl
+case-l-refused = on-tables 0x7B 364 0xBC (Refused 25 (romAddr 0x100)) "refused 25 0100\n" refl refl
 
 case-g : CaseHolds (steps callImage 0xA47 0xB2 0xB0 0x0A) × CaseHolds (steps callImage 0xA47 0xB2 0xB1 0x4A)
 unfolding opened callImage stateAt
@@ -155,7 +182,7 @@ case-h = refl
 
 -- image P with its certificate is accepted
 pub accepted-p : verdictOf (imageWith 0x7B) (certificateWith 364 0xA0) ≡ Accepted
-accepted-p = on-tables 0x7B 364 0xA0 ∙ case-i
+accepted-p = case-i .0
 
 -- the one theorem over the list
 pub all-hold : AllHold cases
@@ -178,12 +205,12 @@ all-hold = (
                 (
                   case-h,
                   (
-                    on-tables 0x7B 364 0xA0 ∙ case-i,
+                    case-i,
                     (
-                      on-tables 0x3B 364 0xA0 ∙ case-j,
+                      case-j,
                       (
-                        on-tables 0x7B 363 0xA0 ∙ case-k,
-                        (on-tables 0x7B 364 0xBB ∙ case-l, (on-tables 0x7B 364 0xBC ∙ case-l-refused, tt)),
+                        case-k,
+                        (case-l, (case-l-refused, tt)),
                       ),
                     ),
                   ),

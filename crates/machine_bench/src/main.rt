@@ -1,10 +1,13 @@
-// Runs three programs for a number of records, and writes what each leaves. The first argument is that number in thousands: the gate's run is
-// short, `machine_bench 10000 1` runs ten million records of the first program, to be timed by hand. The second argument is the program, 0 for all.
+// Runs of the machine, to be timed: `machine_bench WHAT COUNT`. The first argument is the program, 0 for all, the second is thousands of records.
+// `bench/run` times it and prints a table; the gate's run is short and compares what each program leaves.
 use libc::STDOUT_FILENO;
 use semantics::State;
 
 // The records of one call of `run`.
 const PART: usize = 1000;
+
+// Where reset starts.
+const START: usize = 0x100;
 
 // The number that an argument's decimal digits give.
 fn number(text: &[u8]) -> u64 {
@@ -35,32 +38,91 @@ fn put(image: &mut [u8; 4096], at: usize, bytes: &[u8]) {
     }
 }
 
-// INC R0; ADD R1,R2; JR to the start.
-fn plain_loop() -> [u8; 4096] {
-    let mut image = [255u8; 4096];
-    put(&mut image, 0x100, b"\x0E\x02\x12\x8B\xFB");
-    image
-}
-
 // A loop that calls a routine, pushes and pops. The routine adds over a table by a pointer, and works on what it has added. The service
 // clears its pending bit.
-fn mixed_program() -> [u8; 4096] {
-    let mut image = [255u8; 4096];
-    put(&mut image, 0, b"\x01\x80");
+fn mixed_program(image: &mut [u8; 4096]) {
+    put(image, 0, b"\x01\x80");
     // LD SP,#C0H; LD P0PND,#02H; EI; LD R4,#01H; CALL 0140H; PUSH R4; POP R5; JR to CALL
     put(
-        &mut image,
-        0x100,
+        image,
+        START,
         b"\xE6\xD9\xC0\xE6\xE8\x02\x9F\x4C\x01\xF6\x01\x40\x70\xC4\x50\xC5\x8B\xF7",
     );
     // CLR R2; LD R3,@R2; ADD R4,R3; LD @R2,R4; INC R2; CP R2,#10H; JR C to LD; ADC R6,#55H; XOR R4,R5; RR R6; RET
     put(
-        &mut image,
+        image,
         0x140,
         b"\xB0\xC2\xC7\x32\x02\x43\xD7\x24\x2E\xA6\xC2\x10\x7B\xF4\x16\xC6\x55\xB2\x45\xE0\xC6\xAF",
     );
     // PUSH R0; LD P0PND,#02H; INC R0; POP R0; IRET
-    put(&mut image, 0x180, b"\x70\xC0\xE6\xE8\x02\x0E\x50\xC0\xBF");
+    put(image, 0x180, b"\x70\xC0\xE6\xE8\x02\x0E\x50\xC0\xBF");
+}
+
+// One group of instructions in a loop.
+fn group(what: u64, image: &mut [u8; 4096]) {
+    // RET
+    put(image, 0x140, b"\xAF");
+    match what {
+        // LD R1,R2; LD 10H,R2; LD R3,#05H; LD 11H,10H; LD 12H,#07H; JR to the start
+        4 => put(
+            image,
+            START,
+            b"\x18\xC2\x29\x10\x3C\x05\xE4\x10\x11\xE6\x12\x07\x8B\xF2",
+        ),
+        // ADD R1,R2; ADC 11H,10H; SUB R3,#05H; OR R4,R5; AND 11H,10H; CP R4,#20H; XOR R5,R6; TM R2,#01H; JR
+        5 => put(
+            image,
+            START,
+            b"\x02\x12\x14\x10\x11\x26\xC3\x05\x42\x45\x54\x10\x11\xA6\xC4\x20\xB2\x56\x76\xC2\x01\x8B\xE9",
+        ),
+        // INC R1; DEC R2; RL R3; RR R4; RLC R5; RRC R6; SRA R7; COM R8; JR
+        6 => put(
+            image,
+            START,
+            b"\x1E\x00\xC2\x90\xC3\xE0\xC4\x10\xC5\xC0\xC6\xD0\xC7\x60\xC8\x8B\xEF",
+        ),
+        // LD R2,#10H; LD R3,@R2; LD @R2,R3; ADD R4,@R2; INC @R2; JR
+        7 => put(
+            image,
+            START,
+            b"\x2C\x10\xC7\x32\xD7\x23\x03\x42\x21\xC2\x8B\xF4",
+        ),
+        // LD R3,05H[R2]; LD 06H[R2],R3; JR
+        8 => put(image, START, b"\x87\x32\x05\x97\x32\x06\x8B\xF8"),
+        // LD SP,#C0H; PUSH R4; PUSH R5; POP R6; POP R7; JR
+        9 => put(
+            image,
+            START,
+            b"\xE6\xD9\xC0\x70\xC4\x70\xC5\x50\xC6\x50\xC7\x8B\xF3",
+        ),
+        // LD SP,#C0H; CALL 0140H; JR to CALL
+        10 => put(image, START, b"\xE6\xD9\xC0\xF6\x01\x40\x8B\xFB"),
+        // LD R4,#01H; LDC R3,@RR4; LDCI R3,@RR4; LDC R3,05H[RR4]; LDC R3,0100H; JR
+        11 => put(
+            image,
+            START,
+            b"\x4C\x01\xC3\x34\xE3\x34\xE7\x34\x05\xA7\x30\x00\x01\x8B\xF1",
+        ),
+        // JR C,+0; JR NC,+0; JR Z,+0; JR NZ,+0; JR ULE,+0; JR GT,+0; JP to the start
+        12 => put(
+            image,
+            START,
+            b"\x7B\x00\xFB\x00\x6B\x00\xEB\x00\x3B\x00\xAB\x00\x8D\x01\x00",
+        ),
+        // RCF; SCF; CCF; NOP; DI; EI; JR
+        13 => put(image, START, b"\xCF\xDF\xEF\xFF\x8F\x9F\x8B\xF8"),
+        // INC R0; ADD R1,R2; JR
+        _ => put(image, START, b"\x0E\x02\x12\x8B\xFB"),
+    }
+}
+
+fn program(what: u64) -> [u8; 4096] {
+    let mut image = [255u8; 4096];
+    if (what == 2) | (what == 3) {
+        mixed_program(&mut image);
+    } else {
+        group(what, &mut image);
+    }
     image
 }
 
@@ -96,10 +158,12 @@ fn wide(x: u8) -> u64 {
     x as u64
 }
 
-// The cycle total, the program counter, R4 and R6.
-fn tell(s: State) {
+// The program, the cycle total, the program counter, R4 and R6.
+fn tell(what: u64, s: State) {
     let pc = s.pc;
     let regs = s.regs;
+    io::print_decimal(STDOUT_FILENO, what);
+    io::write_all(STDOUT_FILENO, b" ");
     io::print_decimal(STDOUT_FILENO, s.cycles as u64);
     io::write_all(STDOUT_FILENO, b" ");
     io::print_hex(STDOUT_FILENO, pc.0 as u64, 4);
@@ -110,19 +174,32 @@ fn tell(s: State) {
     io::write_all(STDOUT_FILENO, b"\n");
 }
 
-fn main() {
+// 1 is a plain loop, 2 the mixed program, 3 the same with a request in one record of twelve, 4 to 13 are groups of instructions.
+fn work(what: u64, count: u64) {
+    let every = if what == 3 { 12 } else { 0 };
+    tell(what, run_parts(&program(what), &schedule(every), count));
+}
+
+fn work_all(count: u64) {
+    let mut what: u64 = 1;
+    while what < 14 {
+        work(what, count);
+        what += 1;
+    }
+}
+
+fn argument(i: usize) -> u64 {
     let mut text = [0u8; 16];
-    let n = os::arg(1, &mut text);
-    let parts = number(&text[..n]);
-    let which = os::arg(2, &mut text);
-    let only = number(&text[..which]);
-    if (only == 0) | (only == 1) {
-        tell(run_parts(&plain_loop(), &schedule(0), parts));
-    }
-    if (only == 0) | (only == 2) {
-        tell(run_parts(&mixed_program(), &schedule(0), parts));
-    }
-    if (only == 0) | (only == 3) {
-        tell(run_parts(&mixed_program(), &schedule(12), parts));
+    let n = os::arg(i, &mut text);
+    number(&text[..n])
+}
+
+fn main() {
+    let what = argument(1);
+    let count = argument(2);
+    if what == 0 {
+        work_all(count);
+    } else {
+        work(what, count);
     }
 }

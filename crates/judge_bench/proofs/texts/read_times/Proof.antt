@@ -1,0 +1,44 @@
+use borrow.Author.Needs.{needs}
+use Rattle.judge_bench.proofs.texts.read_times.Statement.{statement}
+use Rattle.judge_bench.proofs.texts.read_times.Tie as tie
+
+abbrev Inv-loop : tie.InvT-loop
+Inv-loop text buffer₀ count answer₀ left₀ buffer answer left = Unit {0}
+
+abbrev μ-loop : tie.MeasureT-loop
+μ-loop text buffer₀ count answer₀ left₀ buffer answer left = left
+
+loop-holds : tie.Need-loop-holds Inv-loop μ-loop
+loop-holds c = search needs
+
+read-text-requires : tie.Need-read-text-requires Inv-loop μ-loop
+read-text-requires c κs = search needs
+
+answer-of-requires : tie.Need-answer-of-requires Inv-loop μ-loop
+answer-of-requires c κs = search needs
+
+sub-left : tie.Need-sub-left Inv-loop μ-loop
+sub-left c = search needs
+
+loop-less : tie.Need-loop-less Inv-loop μ-loop
+loop-less c = search needs
+
+loop-again : tie.Need-loop-again Inv-loop μ-loop
+loop-again c = search needs
+
+returns : tie.Need-returns Inv-loop μ-loop
+returns c = search needs
+
+pub read-times-spec : {M : Type 1} → statement M
+read-times-spec =
+    tie.close
+    (tie.spec
+    Inv-loop
+    μ-loop
+    loop-holds
+    read-text-requires
+    answer-of-requires
+    sub-left
+    loop-less
+    loop-again
+    returns)
