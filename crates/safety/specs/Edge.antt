@@ -206,40 +206,40 @@ Compares Kept w = Unit {0}
 Compares Changed w = Unit {0}
 Compares (Compared x k) w = w ≡ Write.Nothing
 
-abbrev CopiesChange : (C : Certificate) → Change C → Type 0
-CopiesChange C unchanged = Unit {0}
-CopiesChange C (changed (Number n)) = Unit {0}
-CopiesChange C (changed OneMore) = Unit {0}
-CopiesChange C (changed OneLess) = Unit {0}
-CopiesChange C (changed (AtMost n)) = Unit {0}
-CopiesChange C (changed (CopyOf y)) = y .0 ≢ noCell
-CopiesChange C (changed Unknown) = Unit {0}
+abbrev CopiesChange : Change → Type 0
+CopiesChange unchanged = Unit {0}
+CopiesChange (changed (Number n)) = Unit {0}
+CopiesChange (changed OneMore) = Unit {0}
+CopiesChange (changed OneLess) = Unit {0}
+CopiesChange (changed (AtMost n)) = Unit {0}
+CopiesChange (changed (CopyOf y)) = y .0 ≢ noCell
+CopiesChange (changed Unknown) = Unit {0}
 
-pick-copies : (C : Certificate) (b : Bool) (ch : Change C) → CopiesChange C ch → CopiesChange C (pick b ch unchanged)
-pick-copies C true ch h = h
-pick-copies C false ch h = tt
+pick-copies : (b : Bool) (ch : Change) → CopiesChange ch → CopiesChange (pick b ch unchanged)
+pick-copies true ch h = h
+pick-copies false ch h = tt
 
-register-copies : (C : Certificate) (x : RegAddr) (v : NewValue) → Copies (Write.Register x v) → CopiesChange C (changed v)
-register-copies C x (Number n) h = tt
-register-copies C x OneMore h = tt
-register-copies C x OneLess h = tt
-register-copies C x (AtMost n) h = tt
-register-copies C x (CopyOf y) h = h
-register-copies C x Unknown h = tt
+register-copies : (x : RegAddr) (v : NewValue) → Copies (Write.Register x v) → CopiesChange (changed v)
+register-copies x (Number n) h = tt
+register-copies x OneMore h = tt
+register-copies x OneLess h = tt
+register-copies x (AtMost n) h = tt
+register-copies x (CopyOf y) h = h
+register-copies x Unknown h = tt
 
-change-copies : (C : Certificate) (a : ℕ) (w : Write) (x : ℕ) → Copies w → CopiesChange C (changeOf C a w x)
+change-copies : (C : Certificate) (a : ℕ) (w : Write) (x : ℕ) → Copies w → CopiesChange (changeOf C a w x)
 change-copies C a Write.Nothing x h = tt
-change-copies C a (Write.Register y v) x h = pick-copies C (eqb x (y .0)) (changed v) (register-copies C y v h)
-change-copies C a (Write.Pointed p o) x h = pick-copies C (leb (low C a (p .0) + o) x && leb x (high C a (p .0) + o)) (changed Unknown) tt
+change-copies C a (Write.Register y v) x h = pick-copies (eqb x (y .0)) (changed v) (register-copies y v h)
+change-copies C a (Write.Pointed p o) x h = pick-copies (leb (low C a (p .0) + o) x && leb x (high C a (p .0) + o)) (changed Unknown) tt
 change-copies C a (Write.RegisterAndPair y p) x h =
-    pick-copies C (eqb x (y .0) || eqb x (p .0) || eqb x (p .0 + 1)) (changed Unknown) tt
+    pick-copies (eqb x (y .0) || eqb x (p .0) || eqb x (p .0 + 1)) (changed Unknown) tt
 
 -- The edge that is taken --
 
 abbrev pub taken : ℕ → List ℕ → ℕ → Edge
 taken n r t = record { condition = n; outcome = condition n (at r flagsCell); to = t }
 
-pub kept-effect : (C : Certificate) (ch : Change C) (r r′ : List ℕ) (x : ℕ) → Holds (isUnchanged C ch) → Effect C ch r r′ x → at r′ x ≡ at r x
+pub kept-effect : (C : Certificate) (ch : Change) (r r′ : List ℕ) (x : ℕ) → Holds (isUnchanged C ch) → Effect C ch r r′ x → at r′ x ≡ at r x
 kept-effect C unchanged r r′ x h e = e
 kept-effect C (changed v) r r′ x h e = absurd h
 
@@ -302,7 +302,7 @@ module _ (C : Certificate) (more : CertificateFacts C) (a : ℕ) (e : EntryFacts
         (omega arith, omega arith))
         (le? ramEnd y)
 
-    follow : (ch : Change C) (x l h : ℕ) → x < ramEnd → CopiesChange C ch → Holds (follows C a (taken n r t) ch x l h) → Effect C ch r r′ x
+    follow : (ch : Change) (x l h : ℕ) → x < ramEnd → CopiesChange ch → Holds (follows C a (taken n r t) ch x l h) → Effect C ch r r′ x
         → (l ≤ at r′ x) × (at r′ x ≤ h)
     follow unchanged x l h hx k m q = rw q (m (at r x) (regs .bytes x) (left-now x hx))
     follow (changed (Number v)) x l h hx k m q = (omega arith, omega arith)
@@ -361,7 +361,7 @@ module _ (C : Certificate) (more : CertificateFacts C) (a : ℕ) (e : EntryFacts
     unfolding compareFollows
     compare-follows f et k q m h = flags-follow f et h k (m (λ z. omega arith)) q
 
-    bound-along : (ch : Change C) → t < 4096 → EntryFacts C t → Claims C t r′ → C .firstCell t ≡ C .firstCell a → C .firstCell a < ramEnd
+    bound-along : (ch : Change) → t < 4096 → EntryFacts C t → Claims C t r′ → C .firstCell t ≡ C .firstCell a → C .firstCell a < ramEnd
         → Effect C ch r r′ (C .firstCell a) → boundNow C t r′ ≤ boundAlong C ch t (firstNow C a r)
     bound-along unchanged ht et ct q h k =
         let z : firstNow C t r′ ≡ firstNow C a r = first-in C t r′ (omega arith) ∙ ap (at r′) q ∙ k ∙ sym (first-in C a r h) in

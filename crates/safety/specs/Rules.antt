@@ -66,6 +66,11 @@ meets cc o v k =
     ∷ (3, onOutcome o (le v k)) ∷ (11, onOutcome o (lt k v)) ∷ [])
     always
 
+-- what a write may leave in a cell: nothing new, or a value
+pub data Change : Type 0 where
+  unchanged : Change
+  changed : NewValue → Change
+
 module _ (C : Certificate) where
   -- the range of a cell at an address: its claim's, unclaimed 0 to 255
   unfoldable pub low : ℕ → ℕ → ℕ
@@ -346,11 +351,7 @@ module _ (C : Certificate) where
 
   -- Rule 26 --
 
-  -- what a write may leave in cell x: nothing new, or a value
-  pub data Change : Type 0 where
-    unchanged : Change
-    changed : NewValue → Change
-
+  -- what a write may leave in cell x
   abbrev pub changeOf : ℕ → Write → ℕ → Change
   changeOf a Write.Nothing x = unchanged
   changeOf a (Write.Register y v) x = pick (eqb x (y .0)) (changed v) unchanged
