@@ -21,7 +21,7 @@ use Rattle.certificate.specs.declared.Write.{Write}
 use Rattle.certificate.specs.declared.FlagEffect.{FlagEffect}
 use Rattle.certificate.specs.declared.FlagEffect.the-variants.{Kept, Changed, Compared}
 use Rattle.certificate.specs.Layout.{Certificate}
-use Rattle.safety.specs.Rules.{noCell, ramEnd, Edge, meets, low, high, claimed, boundAt, worst, claimRule, emptyEntry, entryRule, addressRule, startRule, rule20, writable, directWrite, reach, pointedWrite, Change, changeOf, narrowed, left, feasible, follows, claimFollows, claimsFollow, isUnchanged, flagsFollow, compareFollows, firstValue, sameFirst, boundAlong, boundAfter, paid}
+use Rattle.safety.specs.Rules.{noCell, ramEnd, Edge, onOutcome, told, meets, low, high, claimed, boundAt, worst, claimRule, emptyEntry, entryRule, addressRule, startRule, rule20, writable, directWrite, reach, pointedWrite, Change, changeOf, narrowed, left, feasible, follows, claimFollows, claimsFollow, isUnchanged, flagsFollow, compareFollows, firstValue, sameFirst, boundAlong, boundAfter, paid}
 use Rattle.safety.specs.Rules.Change.{unchanged, changed}
 use Rattle.safety.specs.Invariant.{at, Registers, Claims, CompareHolds, firstNow, boundNow, Effect, FlagsAfter}
 use Rattle.safety.specs.Accepted.{Accepts}
@@ -139,11 +139,6 @@ now-worst C more t r ht e cl =
 
 -- Compare --
 
--- p on the outcome that it decides, its opposite on the other
-abbrev onOutcome : Bool → Formula → Formula
-onOutcome true p = p
-onOutcome false p = neg p
-
 on-outcome : (p : Formula) (o : Bool) → o ≡ decide p → Holds (onOutcome o p)
 on-outcome p true e = decide-true p e refl
 on-outcome p false e = decide-false p e refl
@@ -160,12 +155,6 @@ pick-holds n k p q false e f h = h
 choose-holds : (n : ℕ) (rows : List (ℕ × Formula)) → EachHolds n rows → Holds (choose n rows always)
 choose-holds n [] h = tt
 choose-holds n (e ∷ rows) h = pick-holds n (e .0) (e .1) (choose n rows always) (eqb n (e .0)) refl (h .0) (choose-holds n rows (h .1))
-
--- the six conditions that a compare tells of, each with the formula that it stands for
-abbrev told : Bool → ℕ → ℕ → List (ℕ × Formula)
-told o v k =
-    (7, onOutcome o (lt v k)) ∷ (15, onOutcome o (le k v)) ∷ (6, onOutcome o (eq v k)) ∷ (14, onOutcome o (neg (eq v k)))
-    ∷ (3, onOutcome o (le v k)) ∷ (11, onOutcome o (lt k v)) ∷ []
 
 -- of the flags that a compare leaves, each condition tells what the rules take from it
 pub meets-now : (n v k f : ℕ) → f ≡ compareFlags v k → v < 256 → k < 256 → Holds (meets n (condition n f) v k)
