@@ -64,7 +64,7 @@ module _ (C : Certificate) (a : ℕ) (e : rules.Edge) (x v : ℕ) where
 unfoldable pub feasibleFor : Certificate → ℕ → rules.Edge → ℕ → Formula
 feasibleFor C a e x = claimed C a x ⇒ neg (forallBelow 256 (λ v. neg (left C a e x v)))
 
-abbrev pub changeIn : (C : Certificate) → Change → rules.Change C
+abbrev pub changeIn : (C : Certificate) → Change → rules.Change
 changeIn C Unchanged = rules.Change.unchanged
 changeIn C (Changed v) = rules.Change.changed v
 

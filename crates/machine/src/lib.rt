@@ -5,7 +5,7 @@ ghost use mathlib.Core.Bool.{true, false};
 ghost use Prim.Native.Nat.{ℕ, _*_, _/_};
 ghost use lib.ListN.{length};
 ghost use Rattle.isa.specs.Answer.{decoded};
-ghost use Rattle.semantics.specs.Reset.{resetState};
+ghost use Rattle.semantics.specs.Reset.{resetState, IsReset};
 ghost use Rattle.base.specs.Choice.{pick};
 ghost use Rattle.semantics.specs.Step.{actingRequests, entryDue, finishOf, enterOf, entryCost, afterDecode, instructionStep, modeStep, stepAfterRequests, stepWith, stepOf};
 ghost use Rattle.semantics.specs.Run.{runFrom, runOf};
@@ -33,9 +33,10 @@ struct Ended {
     stop: u8,
 }
 
-// The state at reset. RAM, FLAGS and SP, which a reset leaves open, are 0.
+// The state at reset. RAM, FLAGS and SP, which a reset leaves open, are 0. It is one of the states that demand 3 speaks of.
 pub fn reset() -> State
     ensures { λ r. ⌜ r ≡ resetState ⌝ }
+    ensures valid { λ r. ⌜ IsReset r ⌝ }
 {
     let regs = chip::reset_registers();
     State {

@@ -1,109 +1,116 @@
--- Each of the four programs is refused, and a run of it from reset breaks demand 3: it stops, its pointer leaves every table, its SP leaves the
--- stack, its routine spends more than its bound. So demand 3 says something, and the rules that refuse them are needed.
+-- Each program is refused, and a run of it from reset breaks one promise of demand 3. So demand 3 says something, and the rules that refuse them
+-- are needed.
 -- Assumes nothing.
-use mathlib.Core.Path.{_≡_, refl, sym, _∙_}
+use mathlib.Core.Path.{_≡_, refl, sym, subst}
 use mathlib.Core.Logic.{_≢_}
-use mathlib.Core.List.{List, []}
-use Prim.Native.Nat.{ℕ, zero, suc, _%_, _≤_, _<_}
+use mathlib.Core.List.{List}
+use Prim.Native.Nat.{ℕ, zero, suc, _+_, _*_, _/_, _%_, _≤_, _<_}
 use native.Mathlib.Omega.{arith}
-use lib.ListN.{length, getD, replicate}
+use lib.ListN.{length, getD, replicate, length-replicate}
 use Rattle.base.specs.Addresses.{romAddr}
-use Rattle.chip.specs.Reset.{resetRegisters}
-use Rattle.chip.specs.ResetLaws.{reset-length, reset-bytes}
-use Rattle.semantics.specs.Reset.{IsReset, resetState}
-use Rattle.semantics.specs.Step.{stepOf}
-use Rattle.semantics.specs.Run.{runOf}
+use Rattle.semantics.specs.Reset.{resetState}
+use Rattle.semantics.specs.ResetLaws.{reset-is-reset}
+use Rattle.semantics.specs.Run.{recordAt}
 use Rattle.certificate.specs.declared.Verdict.the-variants.{Refused}
-use Rattle.certificate.specs.Layout.{Certificate}
 use Rattle.safety.specs.Verdicts.{verdictOn}
-use Rattle.safety.specs.Statement.{Demand3, Schedule, RunRight, Walk, fromReset, monitorStep, eventOf}
-use Rattle.refused_programs.specs.Programs.{stoppingImage, stoppingCertificate, pointingImage, pointingCertificate, pushingImage, pushingCertificate, loopingImage, loopingCertificate}
+use Rattle.safety.specs.Statement.{Demand3, StepRight, Monitored, Walk, fromReset, monitorStep}
+use Rattle.refused_programs.specs.Programs.{Program, stopping, straying, unnamed, pointing, pushing, returning, looping, charging}
 use Rattle.refused_programs.specs.Opened.{opened}
 
 -- refused at an address, and not as demanded
-pub record Breaks (C : Certificate) (image : List ℕ) (rule address : ℕ) : Type 0 where
-  pub verdict : verdictOn C image ≡ Refused rule (romAddr address)
-  pub broken : Demand3 C image → ⊥
+pub record Breaks (p : Program) (rule address : ℕ) : Type 0 where
+  pub verdict : verdictOn (p .certificate) (p .image) ≡ Refused rule (romAddr address)
+  pub broken : Demand3 (p .certificate) (p .image) → ⊥
 
-stopping-verdict : verdictOn stoppingCertificate stoppingImage ≡ Refused 22 (romAddr 0x100)
-unfolding opened
-stopping-verdict = refl
-
-pointing-verdict : verdictOn pointingCertificate pointingImage ≡ Refused 24 (romAddr 0x100)
-unfolding opened
-pointing-verdict = refl
-
-pushing-verdict : verdictOn pushingCertificate pushingImage ≡ Refused 25 (romAddr 0x105)
-unfolding opened
-pushing-verdict = refl
-
-looping-verdict : verdictOn loopingCertificate loopingImage ≡ Refused 27 (romAddr 0x120)
-unfolding opened
-looping-verdict = refl
-
-reset-flags : getD resetRegisters 0xD5 0 % 16 ≡ 0
-unfolding opened
-reset-flags = refl
-
-is-reset : IsReset resetState
-unfolding resetState
-is-reset = record {
-  size = reset-length;
-  bytes = reset-bytes;
-  control = λ a l u f s. refl;
-  flags = reset-flags;
-  counter = refl;
-  mode = refl;
-  cycles = refl;
-}
-
--- k records without requests
 zeros : (n i : ℕ) → getD (replicate n 0) i 0 < 256
 zeros zero i = omega arith
 zeros (suc n) zero = omega arith
 zeros (suc n) (suc i) = zeros n i
 
-stopping-broken : Demand3 stoppingCertificate stoppingImage → ⊥
+module _ (p : Program) where
+  -- step k is right, counted from record i on
+  abbrev RightAt : ℕ → (ℕ → ℕ) → List ℕ → ℕ → Monitored → Type 0
+  RightAt zero tables schedule i m = StepRight (p .certificate) (p .image) tables m (recordAt schedule i)
+  RightAt (suc k) tables schedule i m =
+      RightAt k tables schedule (i + 1) (monitorStep (p .certificate) (p .image) m (recordAt schedule i))
+
+  right-at : (k : ℕ) (tables : ℕ → ℕ) (schedule : List ℕ) (i : ℕ) (m : Monitored)
+      → Walk (p .certificate) (p .image) (suc k) tables schedule i m → RightAt k tables schedule i m
+  right-at zero tables schedule i m w = w .0
+  right-at (suc k) tables schedule i m w =
+      right-at k tables schedule (i + 1) (monitorStep (p .certificate) (p .image) m (recordAt schedule i)) (w .1)
+
+  -- step k of the run from the reset state whose open bytes are 0, without requests
+  step : (d : Demand3 (p .certificate) (p .image)) (k : ℕ)
+      → RightAt k (d .0) (replicate (8 * suc k) 0) 0 (fromReset (p .certificate) (p .image) resetState)
+  step d k =
+      let schedule : List ℕ = replicate (8 * suc k) 0 in
+      let l = length-replicate {A = ℕ} (8 * suc k) 0 in
+      let e : length schedule / 8 ≡ suc k = omega arith in
+      let r = d .1 resetState reset-is-reset schedule (record { whole = omega arith; bytes = zeros (8 * suc k) }) in
+      right-at k (d .0) schedule 0 (fromReset (p .certificate) (p .image) resetState)
+      (subst (λ (n : ℕ). Walk (p .certificate) (p .image) n (d .0) schedule 0 (fromReset (p .certificate) (p .image) resetState)) e (r .walk))
+
+-- it stops
+pub stopping-breaks : Breaks stopping 22 0x100
 unfolding opened
-stopping-broken d =
-    let r = d .1 resetState is-reset (replicate 8 0) (record { whole = refl; bytes = zeros 8 }) in
-    let z : _≡_ {A = ℕ} 11 0 = r .walk .0 .goes in
-    omega arith
+stopping-breaks = record {
+  verdict = refl;
+  broken = λ d. let z : _≡_ {A = ℕ} 11 0 = step stopping d 0 .goes in omega arith;
+}
+
+-- main's instruction begins where an entry names routine 3
+pub straying-breaks : Breaks straying 21 0x100
+unfolding opened
+straying-breaks = record {
+  verdict = refl;
+  broken = λ d. let z : _≡_ {A = ℕ} 3 1 = step straying d 1 .event .begins in omega arith;
+}
+
+-- the routine that CALL opens has no entry
+pub unnamed-breaks : Breaks unnamed 21 0x103
+unfolding opened
+unnamed-breaks = record {
+  verdict = refl;
+  broken = λ d. let z : 1 ≤ 0 = step unnamed d 2 .event .named in omega arith;
+}
 
 -- R1 is 0, and register 00H lies in no table
-pointing-broken : Demand3 pointingCertificate pointingImage → ⊥
+pub pointing-breaks : Breaks pointing 24 0x100
 unfolding opened
-pointing-broken d =
-    let r = d .1 resetState is-reset (replicate 8 0) (record { whole = refl; bytes = zeros 8 }) in
-    let z : (0 ≡ d .0 0x100) × (d .0 0x100 ≢ 0) = r .walk .0 .event .pointers .1 in
-    z .1 (sym (z .0))
+pointing-breaks = record {
+  verdict = refl;
+  broken = λ d. let z : (0 ≡ d .0 0x100) × (d .0 0x100 ≢ 0) = step pointing d 0 .event .pointers .1 in z .1 (sym (z .0));
+}
 
 -- behind the sixth PUSH SP is BAH, below the floor
-pushing-broken : Demand3 pushingCertificate pushingImage → ⊥
+pub pushing-breaks : Breaks pushing 25 0x105
 unfolding opened
-pushing-broken d =
-    let r = d .1 resetState is-reset (replicate 96 0) (record { whole = refl; bytes = zeros 96 }) in
-    let s = r .walk .1 .1 .1 .1 .1 .1 .1 .1 .1 .1 .1 .0 .stack refl in
-    let z : 0xBB ≤ 0xBA = s .0 in
-    omega arith
+pushing-breaks = record {
+  verdict = refl;
+  broken = λ d. let z : 0xBB ≤ 0xBA = step pushing d 11 .stack refl .0 in omega arith;
+}
+
+-- RET takes the byte that was pushed for the high half of its address, and goes to 0001H and not behind CALL
+pub returning-breaks : Breaks returning 25 0x122
+unfolding opened
+returning-breaks = record {
+  verdict = refl;
+  broken = λ d. let z : _≡_ {A = ℕ} 0x001 0x106 = step returning d 3 .event .returning .0 in omega arith;
+}
 
 -- the second jump brings routine 3 to 12 cycles
-looping-broken : Demand3 loopingCertificate loopingImage → ⊥
+pub looping-breaks : Breaks looping 27 0x120
 unfolding opened
-looping-broken d =
-    let r = d .1 resetState is-reset (replicate 32 0) (record { whole = refl; bytes = zeros 32 }) in
-    let z : 12 ≤ 10 = r .walk .1 .1 .1 .0 .within .0 (λ e. omega arith) in
-    omega arith
+looping-breaks = record {
+  verdict = refl;
+  broken = λ d. let z : 12 ≤ 10 = step looping d 3 .within .0 (λ e. omega arith) in omega arith;
+}
 
--- the promise that nothing stops, that pointers stay in their tables, that SP stays in the stack, that cycles stay within bounds
-pub stopping : Breaks stoppingCertificate stoppingImage 22 0x100
-stopping = record { verdict = stopping-verdict; broken = stopping-broken }
-
-pub pointing : Breaks pointingCertificate pointingImage 24 0x100
-pointing = record { verdict = pointing-verdict; broken = pointing-broken }
-
-pub pushing : Breaks pushingCertificate pushingImage 25 0x105
-pushing = record { verdict = pushing-verdict; broken = pushing-broken }
-
-pub looping : Breaks loopingCertificate loopingImage 27 0x120
-looping = record { verdict = looping-verdict; broken = looping-broken }
+-- with the 8 cycles of routine 4 routine 3 spends 30
+pub charging-breaks : Breaks charging 27 0x120
+unfolding opened
+charging-breaks = record {
+  verdict = refl;
+  broken = λ d. let z : 30 ≤ 22 = step charging d 4 .within .0 (λ e. omega arith) in omega arith;
+}

@@ -1,5 +1,4 @@
--- Four small programs with their certificates: the instruction at 0100H is undefined; a pointer without a claim; a loop of PUSH; a routine that
--- never returns.
+-- Eight small programs with their certificates, each of which breaks one rule.
 -- Assumes nothing.
 use mathlib.Core.List.{List, [], _∷_, _++_}
 use Prim.Native.Nat.{ℕ, _-_}
@@ -7,6 +6,10 @@ use lib.ListN.{length, replicate}
 use Rattle.base.specs.Choice.{choose}
 use Rattle.certificate.specs.Layout.{Certificate, certificateFrom}
 use Rattle.logger_cases.specs.Gathered.{upTo}
+
+pub record Program : Type 0 where
+  pub image : List ℕ
+  pub certificate : Certificate
 
 -- code at 0100H and at 0120H; the service at 0140H is IRET
 abbrev padded : List ℕ → List ℕ
@@ -16,53 +19,62 @@ unfoldable pub imageOf : List ℕ → List ℕ → List ℕ
 imageOf main routine =
     (0x01 ∷ 0x40 ∷ []) ++ (replicate 254 0xFF ++ (padded main ++ (padded routine ++ (0xBF ∷ replicate 3775 0xFF))))
 
--- an entry without claims: routine, depth, B below 256
-abbrev entry : ℕ → ℕ → ℕ → List ℕ
-entry routine depth base = routine ∷ depth ∷ 0 ∷ base ∷ 0 ∷ 0 ∷ 0xFF ∷ 0 ∷ 0 ∷ 0xFF ∷ 0 ∷ 0 ∷ 0xFF ∷ 0 ∷ []
+-- the entry of an address, without claims: routine, depth, B below 256
+abbrev entry : ℕ → ℕ → ℕ → ℕ → ℕ × List ℕ
+entry address routine depth base =
+    (address, routine ∷ depth ∷ 0 ∷ base ∷ 0 ∷ 0 ∷ 0xFF ∷ 0 ∷ 0 ∷ 0xFF ∷ 0 ∷ 0 ∷ 0xFF ∷ 0 ∷ [])
 
--- main with its need; the service, bound 10
-abbrev mainRow : ℕ → ℕ × List ℕ
-mainRow need = (1, 0x01 ∷ 0x00 ∷ 1 ∷ need ∷ 0 ∷ 0 ∷ [])
+-- the row of a routine that starts between 0100H and 01FFH: the start's low half, side, need, bound below 256
+abbrev row : ℕ → ℕ → ℕ → ℕ → ℕ → ℕ × List ℕ
+row n start side need bound = (n, 0x01 ∷ start ∷ side ∷ need ∷ 0 ∷ bound ∷ [])
 
-abbrev serviceRow : ℕ × List ℕ
-serviceRow = (2, 0x01 ∷ 0x40 ∷ 2 ∷ 0 ∷ 0 ∷ 10 ∷ [])
+-- main and routine, with main's need; the service has bound 10, the top is C0H
+abbrev programOf : List ℕ → List ℕ → ℕ → List (ℕ × List ℕ) → List (ℕ × List ℕ) → List (ℕ × List ℕ) → ℕ → Program
+programOf main routine need entries cells rows floor = record {
+  image = imageOf main routine;
+  certificate =
+      certificateFrom (upTo 4096 (λ a. choose a (entry 0x140 2 0 10 ∷ entries) (replicate 14 0))) (upTo 256 (λ x. choose x cells (replicate 3 0)))
+      (upTo 64 (λ n. choose n (row 1 0x00 1 need 0 ∷ row 2 0x40 2 0 10 ∷ rows) (replicate 6 0))) floor 0xC0;
+}
 
-abbrev serviceEntry : ℕ × List ℕ
-serviceEntry = (0x140, entry 2 0 10)
+-- main is LD SP,#C0H; CALL 0120H, again and again
+abbrev calling : List ℕ → ℕ → List (ℕ × List ℕ) → List (ℕ × List ℕ) → Program
+calling routine need entries rows =
+    programOf (0xE6 ∷ 0xD9 ∷ 0xC0 ∷ 0xF6 ∷ 0x01 ∷ 0x20 ∷ 0x8B ∷ 0xFB ∷ []) routine need
+    (entry 0x100 1 255 0 ∷ entry 0x103 1 0 0 ∷ entry 0x106 1 0 0 ∷ entries) [] rows 0xA0
 
-abbrev tables : List (ℕ × List ℕ) → List (ℕ × List ℕ) → List (ℕ × List ℕ) → ℕ → Certificate
-tables entries cells rows floor =
-    certificateFrom (upTo 4096 (λ a. choose a entries (replicate 14 0))) (upTo 256 (λ x. choose x cells (replicate 3 0)))
-    (upTo 64 (λ n. choose n rows (replicate 6 0))) floor 0xC0
+-- the instruction at 0100H is undefined
+unfoldable pub stopping : Program
+stopping = programOf (0x0A ∷ []) [] 0 (entry 0x100 1 255 0 ∷ []) [] [] 0xA0
 
-unfoldable pub stoppingImage : List ℕ
-stoppingImage = imageOf (0x0A ∷ []) []
+-- main jumps to the start of routine 3, which is RET
+unfoldable pub straying : Program
+straying = programOf (0x8B ∷ 0x1E ∷ []) (0xAF ∷ []) 0 (entry 0x100 1 255 0 ∷ entry 0x120 3 0 8 ∷ []) [] (row 3 0x20 1 0 8 ∷ []) 0xA0
 
-unfoldable pub stoppingCertificate : Certificate
-stoppingCertificate = tables ((0x100, entry 1 255 0) ∷ serviceEntry ∷ []) [] (mainRow 0 ∷ serviceRow ∷ []) 0xA0
+-- RET is called, and has no entry
+unfoldable pub unnamed : Program
+unnamed = calling (0xAF ∷ []) 2 [] []
 
 -- LD R0,@R1, then a jump to itself; no table is declared
-unfoldable pub pointingImage : List ℕ
-pointingImage = imageOf (0xC7 ∷ 0x01 ∷ 0x8B ∷ 0xFE ∷ []) []
-
-unfoldable pub pointingCertificate : Certificate
-pointingCertificate =
-    tables ((0x100, entry 1 255 0) ∷ (0x102, entry 1 255 0) ∷ serviceEntry ∷ []) ((0xC0, 1 ∷ 1 ∷ 0 ∷ []) ∷ []) (mainRow 0 ∷ serviceRow ∷ []) 0xA0
+unfoldable pub pointing : Program
+pointing = programOf (0xC7 ∷ 0x01 ∷ 0x8B ∷ 0xFE ∷ []) [] 0 (entry 0x100 1 255 0 ∷ entry 0x102 1 255 0 ∷ []) ((0xC0, 1 ∷ 1 ∷ 0 ∷ []) ∷ []) [] 0xA0
 
 -- LD SP,#C0H; PUSH R0, again and again; five stack bytes
-unfoldable pub pushingImage : List ℕ
-pushingImage = imageOf (0xE6 ∷ 0xD9 ∷ 0xC0 ∷ 0x70 ∷ 0xC0 ∷ 0x8B ∷ 0xFC ∷ []) []
+unfoldable pub pushing : Program
+pushing =
+    programOf (0xE6 ∷ 0xD9 ∷ 0xC0 ∷ 0x70 ∷ 0xC0 ∷ 0x8B ∷ 0xFC ∷ []) [] 2
+    (entry 0x100 1 255 0 ∷ entry 0x103 1 0 0 ∷ entry 0x105 1 1 0 ∷ []) [] [] 0xBB
 
-unfoldable pub pushingCertificate : Certificate
-pushingCertificate =
-    tables ((0x100, entry 1 255 0) ∷ (0x103, entry 1 0 0) ∷ (0x105, entry 1 1 0) ∷ serviceEntry ∷ []) [] (mainRow 2 ∷ serviceRow ∷ []) 0xBB
+-- routine 3 is PUSH R0; RET
+unfoldable pub returning : Program
+returning = calling (0x70 ∷ 0xC0 ∷ 0xAF ∷ []) 3 (entry 0x120 3 0 16 ∷ entry 0x122 3 1 8 ∷ []) (row 3 0x20 1 1 16 ∷ [])
 
--- LD SP,#C0H; CALL 0120H, where a jump goes to itself; routine 3 has bound 10
-unfoldable pub loopingImage : List ℕ
-loopingImage = imageOf (0xE6 ∷ 0xD9 ∷ 0xC0 ∷ 0xF6 ∷ 0x01 ∷ 0x20 ∷ 0x8B ∷ 0xFE ∷ []) (0x8B ∷ 0xFE ∷ [])
+-- routine 3 is a jump to itself, with bound 10
+unfoldable pub looping : Program
+looping = calling (0x8B ∷ 0xFE ∷ []) 2 (entry 0x120 3 0 10 ∷ []) (row 3 0x20 1 0 10 ∷ [])
 
-unfoldable pub loopingCertificate : Certificate
-loopingCertificate =
-    tables
-    ((0x100, entry 1 255 0) ∷ (0x103, entry 1 0 0) ∷ (0x106, entry 1 0 0) ∷ (0x120, entry 3 0 10) ∷ serviceEntry ∷ []) []
-    (mainRow 2 ∷ serviceRow ∷ (3, 0x01 ∷ 0x20 ∷ 1 ∷ 0 ∷ 0 ∷ 10 ∷ []) ∷ []) 0xA0
+-- routine 3 is CALL 0124H; RET, with bound 22, its own cycles; routine 4 at 0124H is RET
+unfoldable pub charging : Program
+charging =
+    calling (0xF6 ∷ 0x01 ∷ 0x24 ∷ 0xAF ∷ 0xAF ∷ []) 4
+    (entry 0x120 3 0 22 ∷ entry 0x123 3 0 8 ∷ entry 0x124 4 0 8 ∷ []) (row 3 0x20 1 2 22 ∷ row 4 0x24 1 0 8 ∷ [])

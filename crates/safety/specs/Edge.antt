@@ -21,7 +21,7 @@ use Rattle.certificate.specs.declared.Write.{Write}
 use Rattle.certificate.specs.declared.FlagEffect.{FlagEffect}
 use Rattle.certificate.specs.declared.FlagEffect.the-variants.{Kept, Changed, Compared}
 use Rattle.certificate.specs.Layout.{Certificate}
-use Rattle.safety.specs.Rules.{noCell, ramEnd, Edge, meets, low, high, claimed, boundAt, worst, claimRule, emptyEntry, entryRule, addressRule, startRule, rule20, writable, directWrite, reach, pointedWrite, Change, changeOf, narrowed, left, feasible, follows, claimFollows, claimsFollow, isUnchanged, flagsFollow, compareFollows, firstValue, sameFirst, boundAlong, boundAfter, paid}
+use Rattle.safety.specs.Rules.{noCell, ramEnd, Edge, onOutcome, told, meets, low, high, claimed, boundAt, worst, claimRule, emptyEntry, entryRule, addressRule, startRule, rule20, writable, directWrite, reach, pointedWrite, Change, changeOf, narrowed, left, feasible, follows, claimFollows, claimsFollow, isUnchanged, flagsFollow, compareFollows, firstValue, sameFirst, boundAlong, boundAfter, paid}
 use Rattle.safety.specs.Rules.Change.{unchanged, changed}
 use Rattle.safety.specs.Invariant.{at, Registers, Claims, CompareHolds, firstNow, boundNow, Effect, FlagsAfter}
 use Rattle.safety.specs.Accepted.{Accepts}
@@ -139,11 +139,6 @@ now-worst C more t r ht e cl =
 
 -- Compare --
 
--- p on the outcome that it decides, its opposite on the other
-abbrev onOutcome : Bool → Formula → Formula
-onOutcome true p = p
-onOutcome false p = neg p
-
 on-outcome : (p : Formula) (o : Bool) → o ≡ decide p → Holds (onOutcome o p)
 on-outcome p true e = decide-true p e refl
 on-outcome p false e = decide-false p e refl
@@ -160,12 +155,6 @@ pick-holds n k p q false e f h = h
 choose-holds : (n : ℕ) (rows : List (ℕ × Formula)) → EachHolds n rows → Holds (choose n rows always)
 choose-holds n [] h = tt
 choose-holds n (e ∷ rows) h = pick-holds n (e .0) (e .1) (choose n rows always) (eqb n (e .0)) refl (h .0) (choose-holds n rows (h .1))
-
--- the six conditions that a compare tells of, each with the formula that it stands for
-abbrev told : Bool → ℕ → ℕ → List (ℕ × Formula)
-told o v k =
-    (7, onOutcome o (lt v k)) ∷ (15, onOutcome o (le k v)) ∷ (6, onOutcome o (eq v k)) ∷ (14, onOutcome o (neg (eq v k)))
-    ∷ (3, onOutcome o (le v k)) ∷ (11, onOutcome o (lt k v)) ∷ []
 
 -- of the flags that a compare leaves, each condition tells what the rules take from it
 pub meets-now : (n v k f : ℕ) → f ≡ compareFlags v k → v < 256 → k < 256 → Holds (meets n (condition n f) v k)
@@ -206,40 +195,40 @@ Compares Kept w = Unit {0}
 Compares Changed w = Unit {0}
 Compares (Compared x k) w = w ≡ Write.Nothing
 
-abbrev CopiesChange : (C : Certificate) → Change C → Type 0
-CopiesChange C unchanged = Unit {0}
-CopiesChange C (changed (Number n)) = Unit {0}
-CopiesChange C (changed OneMore) = Unit {0}
-CopiesChange C (changed OneLess) = Unit {0}
-CopiesChange C (changed (AtMost n)) = Unit {0}
-CopiesChange C (changed (CopyOf y)) = y .0 ≢ noCell
-CopiesChange C (changed Unknown) = Unit {0}
+abbrev CopiesChange : Change → Type 0
+CopiesChange unchanged = Unit {0}
+CopiesChange (changed (Number n)) = Unit {0}
+CopiesChange (changed OneMore) = Unit {0}
+CopiesChange (changed OneLess) = Unit {0}
+CopiesChange (changed (AtMost n)) = Unit {0}
+CopiesChange (changed (CopyOf y)) = y .0 ≢ noCell
+CopiesChange (changed Unknown) = Unit {0}
 
-pick-copies : (C : Certificate) (b : Bool) (ch : Change C) → CopiesChange C ch → CopiesChange C (pick b ch unchanged)
-pick-copies C true ch h = h
-pick-copies C false ch h = tt
+pick-copies : (b : Bool) (ch : Change) → CopiesChange ch → CopiesChange (pick b ch unchanged)
+pick-copies true ch h = h
+pick-copies false ch h = tt
 
-register-copies : (C : Certificate) (x : RegAddr) (v : NewValue) → Copies (Write.Register x v) → CopiesChange C (changed v)
-register-copies C x (Number n) h = tt
-register-copies C x OneMore h = tt
-register-copies C x OneLess h = tt
-register-copies C x (AtMost n) h = tt
-register-copies C x (CopyOf y) h = h
-register-copies C x Unknown h = tt
+register-copies : (x : RegAddr) (v : NewValue) → Copies (Write.Register x v) → CopiesChange (changed v)
+register-copies x (Number n) h = tt
+register-copies x OneMore h = tt
+register-copies x OneLess h = tt
+register-copies x (AtMost n) h = tt
+register-copies x (CopyOf y) h = h
+register-copies x Unknown h = tt
 
-change-copies : (C : Certificate) (a : ℕ) (w : Write) (x : ℕ) → Copies w → CopiesChange C (changeOf C a w x)
+change-copies : (C : Certificate) (a : ℕ) (w : Write) (x : ℕ) → Copies w → CopiesChange (changeOf C a w x)
 change-copies C a Write.Nothing x h = tt
-change-copies C a (Write.Register y v) x h = pick-copies C (eqb x (y .0)) (changed v) (register-copies C y v h)
-change-copies C a (Write.Pointed p o) x h = pick-copies C (leb (low C a (p .0) + o) x && leb x (high C a (p .0) + o)) (changed Unknown) tt
+change-copies C a (Write.Register y v) x h = pick-copies (eqb x (y .0)) (changed v) (register-copies y v h)
+change-copies C a (Write.Pointed p o) x h = pick-copies (leb (low C a (p .0) + o) x && leb x (high C a (p .0) + o)) (changed Unknown) tt
 change-copies C a (Write.RegisterAndPair y p) x h =
-    pick-copies C (eqb x (y .0) || eqb x (p .0) || eqb x (p .0 + 1)) (changed Unknown) tt
+    pick-copies (eqb x (y .0) || eqb x (p .0) || eqb x (p .0 + 1)) (changed Unknown) tt
 
 -- The edge that is taken --
 
 abbrev pub taken : ℕ → List ℕ → ℕ → Edge
 taken n r t = record { condition = n; outcome = condition n (at r flagsCell); to = t }
 
-pub kept-effect : (C : Certificate) (ch : Change C) (r r′ : List ℕ) (x : ℕ) → Holds (isUnchanged C ch) → Effect C ch r r′ x → at r′ x ≡ at r x
+pub kept-effect : (C : Certificate) (ch : Change) (r r′ : List ℕ) (x : ℕ) → Holds (isUnchanged C ch) → Effect C ch r r′ x → at r′ x ≡ at r x
 kept-effect C unchanged r r′ x h e = e
 kept-effect C (changed v) r r′ x h e = absurd h
 
@@ -302,7 +291,7 @@ module _ (C : Certificate) (more : CertificateFacts C) (a : ℕ) (e : EntryFacts
         (omega arith, omega arith))
         (le? ramEnd y)
 
-    follow : (ch : Change C) (x l h : ℕ) → x < ramEnd → CopiesChange C ch → Holds (follows C a (taken n r t) ch x l h) → Effect C ch r r′ x
+    follow : (ch : Change) (x l h : ℕ) → x < ramEnd → CopiesChange ch → Holds (follows C a (taken n r t) ch x l h) → Effect C ch r r′ x
         → (l ≤ at r′ x) × (at r′ x ≤ h)
     follow unchanged x l h hx k m q = rw q (m (at r x) (regs .bytes x) (left-now x hx))
     follow (changed (Number v)) x l h hx k m q = (omega arith, omega arith)
@@ -361,7 +350,7 @@ module _ (C : Certificate) (more : CertificateFacts C) (a : ℕ) (e : EntryFacts
     unfolding compareFollows
     compare-follows f et k q m h = flags-follow f et h k (m (λ z. omega arith)) q
 
-    bound-along : (ch : Change C) → t < 4096 → EntryFacts C t → Claims C t r′ → C .firstCell t ≡ C .firstCell a → C .firstCell a < ramEnd
+    bound-along : (ch : Change) → t < 4096 → EntryFacts C t → Claims C t r′ → C .firstCell t ≡ C .firstCell a → C .firstCell a < ramEnd
         → Effect C ch r r′ (C .firstCell a) → boundNow C t r′ ≤ boundAlong C ch t (firstNow C a r)
     bound-along unchanged ht et ct q h k =
         let z : firstNow C t r′ ≡ firstNow C a r = first-in C t r′ (omega arith) ∙ ap (at r′) q ∙ k ∙ sym (first-in C a r h) in

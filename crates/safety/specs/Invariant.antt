@@ -167,7 +167,7 @@ module _ (C : Certificate) where
 
   -- An instruction as its summary says --
 
-  abbrev pub Effect : Change C → List ℕ → List ℕ → ℕ → Type 0
+  abbrev pub Effect : Change → List ℕ → List ℕ → ℕ → Type 0
   Effect unchanged r r′ x = at r′ x ≡ at r x
   Effect (changed (Number n)) r r′ x = at r′ x ≡ n
   Effect (changed OneMore) r r′ x = at r′ x ≡ (at r x + 1) % 256

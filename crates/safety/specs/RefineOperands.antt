@@ -105,7 +105,7 @@ module _ (C : Certificate) (a : ℕ) where
   Gives (Immediate n) v r b = Unit {0}
 
   -- an effect on a cell that later changes leave alone
-  pub effect-along : (v : Change C) (r r′ r″ : List ℕ) (x : ℕ) → at r″ x ≡ at r′ x → Effect C v r r′ x → Effect C v r r″ x
+  pub effect-along : (v : Change) (r r′ r″ : List ℕ) (x : ℕ) → at r″ x ≡ at r′ x → Effect C v r r′ x → Effect C v r r″ x
   effect-along unchanged r r′ r″ x q h = q ∙ h
   effect-along (changed (Number n)) r r′ r″ x q h = q ∙ h
   effect-along (changed OneMore) r r′ r″ x q h = q ∙ h

@@ -54,17 +54,25 @@ pub record Edge : Type 0 where
 abbrev pub plainEdge : ℕ → Edge
 plainEdge t = record { condition = 8; outcome = true; to = t }
 
-abbrev onOutcome : Bool → Formula → Formula
+-- p on the edge where the condition holds, its opposite on the other
+abbrev pub onOutcome : Bool → Formula → Formula
 onOutcome true p = p
 onOutcome false p = neg p
 
--- of a cell that was compared with k: the values that meet C, NC, Z, NZ, ULE, UGT, unsigned; any other condition says nothing
+-- of a cell that was compared with k: the values that meet C, NC, Z, NZ, ULE, UGT, unsigned
+abbrev pub told : Bool → ℕ → ℕ → List (ℕ × Formula)
+told o v k =
+    (7, onOutcome o (lt v k)) ∷ (15, onOutcome o (le k v)) ∷ (6, onOutcome o (eq v k)) ∷ (14, onOutcome o (neg (eq v k)))
+    ∷ (3, onOutcome o (le v k)) ∷ (11, onOutcome o (lt k v)) ∷ []
+
+-- any other condition says nothing
 unfoldable pub meets : ℕ → Bool → ℕ → ℕ → Formula
-meets cc o v k =
-    choose cc
-    ((7, onOutcome o (lt v k)) ∷ (15, onOutcome o (le k v)) ∷ (6, onOutcome o (eq v k)) ∷ (14, onOutcome o (neg (eq v k)))
-    ∷ (3, onOutcome o (le v k)) ∷ (11, onOutcome o (lt k v)) ∷ [])
-    always
+meets cc o v k = choose cc (told o v k) always
+
+-- what a write may leave in a cell: nothing new, or a value
+pub data Change : Type 0 where
+  unchanged : Change
+  changed : NewValue → Change
 
 module _ (C : Certificate) where
   -- the range of a cell at an address: its claim's, unclaimed 0 to 255
@@ -346,11 +354,7 @@ module _ (C : Certificate) where
 
   -- Rule 26 --
 
-  -- what a write may leave in cell x: nothing new, or a value
-  pub data Change : Type 0 where
-    unchanged : Change
-    changed : NewValue → Change
-
+  -- what a write may leave in cell x
   abbrev pub changeOf : ℕ → Write → ℕ → Change
   changeOf a Write.Nothing x = unchanged
   changeOf a (Write.Register y v) x = pick (eqb x (y .0)) (changed v) unchanged

@@ -128,6 +128,7 @@ module _ (C : Certificate) (image : List ℕ) (ok : Accepts C image) (facts : Ce
         (record {
           goes = refl;
           event = record {
+            named = k .invariant .used;
             begins = k .invariant .home;
             pointers = rw (table-decoded C image (m .state .pc .0) d q) (r .pointers);
             returning = r .returning;

@@ -233,8 +233,9 @@ module _ (C : Certificate) (image : List ℕ) where
   ReturnsRight returns f pc′ = (pc′ ≡ f .returnTo) × (f .opener ≡ byCall)
   ReturnsRight returnsFromInterrupt f pc′ = (pc′ ≡ f .returnTo) × (f .opener ≡ byInterrupt)
 
-  -- an instruction begins at an address whose entry names the innermost open routine
+  -- an instruction begins at an address whose certificate entry (routine 0 is none) names the innermost open routine
   pub record InstructionRight (t : ℕ) (m : Monitored) (rec : List ℕ) (act : Action) (pc′ : ℕ) : Type 0 where
+    pub named : 1 ≤ C .routine (m .state .pc .0)
     pub begins : C .routine (m .state .pc .0) ≡ m .frames .inner .routine
     pub pointers : PointersRight t (requested (m .state) rec) rec act
     pub returning : ReturnsRight (transferOf act) (m .frames .inner) pc′

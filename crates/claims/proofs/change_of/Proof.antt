@@ -52,7 +52,7 @@ returns-2 c = simp (c .changed-if .ensures, change-pick, c .before .before .befo
 returns-3 : tie.Need-returns-3
 returns-3 c =
     let C = certificateOf (c .before .before .before .before .before .before .args .cert .now) in
-    simp (c .changed-if2 .ensures, change-pick, c .before .before .before .w2 .given .1) (ap (λ (b : Bool). pick {A = rules.Change C} b (rules.Change.changed Unknown) rules.Change.unchanged) (c .before .pointed-at .ensures))
+    simp (c .changed-if2 .ensures, change-pick, c .before .before .before .w2 .given .1) (ap (λ (b : Bool). pick {A = rules.Change} b (rules.Change.changed Unknown) rules.Change.unchanged) (c .before .pointed-at .ensures))
 
 returns-4 : tie.Need-returns-4
 returns-4 c = simp (c .changed-if3 .ensures, change-pick, c .before .before .before .before .before .before .before .before .w3 .given .1)

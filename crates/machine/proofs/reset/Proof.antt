@@ -1,4 +1,5 @@
 use Rattle.semantics.specs.Reset.{resetState}
+use Rattle.semantics.specs.ResetLaws.{reset-is-reset}
 use borrow.Author.Needs.{needs}
 use Rattle.machine.proofs.reset.Statement.{statement}
 use Rattle.machine.proofs.reset.Tie as tie
@@ -8,7 +9,7 @@ reset-registers-requires c κs = search needs
 
 returns : tie.Need-returns
 unfolding resetState
-returns c = simp (c .reset-registers .ensures)
+returns c = (simp (c .reset-registers .ensures), rw (c .reset-registers .ensures) reset-is-reset)
 
 pub reset-spec : {M : Type 1} → statement M
 reset-spec = tie.close (tie.spec reset-registers-requires returns)

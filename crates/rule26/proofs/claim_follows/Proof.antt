@@ -38,7 +38,7 @@ returns-2 c =
     let l = g .k .low in
     let h = g .k .high in
     let e = edgeOf (g .e) in
-    decide-step (present x) (follows C a e (changeOf C a (g .w) x) x l h) (c .before .before .if1 .left) (c .change-follows .ensures ∙ ap (λ (t : rules.Change C). decide (follows C a e t x l h)) (c .before .change-of .ensures))
+    decide-step (present x) (follows C a e (changeOf C a (g .w) x) x l h) (c .before .before .if1 .left) (c .change-follows .ensures ∙ ap (λ (t : rules.Change). decide (follows C a e t x l h)) (c .before .change-of .ensures))
 
 pub claim-follows-spec : {M : Type 1} → statement M
 claim-follows-spec =
