@@ -156,8 +156,6 @@ pub fn check(image: &[u8], cert: &[u8]) -> Verdict
     if cert.len() != 58498 {
         return Verdict::Refused(7, RomAddr(0));
     }
-    let _image = image[0];
-    let _cert = cert[0];
     if !rule20::rule20(image, cert) {
         return Verdict::Refused(20, RomAddr(0));
     }
