@@ -36,7 +36,7 @@ pub record Certificate : Type 0 where
   pub top : ℕ
 
 -- high byte first
-abbrev word : List ℕ → ℕ → ℕ
+abbrev pub word : List ℕ → ℕ → ℕ
 word b i = getD b i 0 * 256 + getD b (i + 1) 0
 
 -- from the parts of an address, of a register and of a routine

@@ -13,9 +13,9 @@ use Rattle.certificate.specs.declared.Summary.{Summary}
 use Rattle.certificate.specs.declared.Verdict.the-variants.{Refused}
 use Rattle.certificate.specs.Layout.{Certificate, certificateOf, certificateLength}
 use Rattle.safety.specs.Rules.{romEnd, rule20, rule21, rule22, rule23, rule24, rule25, rule26, rule27}
-use Rattle.safety.specs.Verdicts.{firstBroken, numberAt, scan, verdictOn, verdictOf}
+use Rattle.safety.specs.Verdicts.{rulesOn, firstBroken, numberAt, scan, verdictOn, verdictOf}
 use Rattle.checker.specs.declared.Holding.{Holding}
-use Rattle.checker.specs.Located.{tested, rulesOn}
+use Rattle.checker.specs.Located.{tested}
 
 turn : (a : ℕ) → a < 4096 → 4096 - a ≡ suc (4096 - (a + 1))
 turn a h = omega arith

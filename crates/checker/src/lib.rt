@@ -2,9 +2,9 @@
 ghost use mathlib.Core.Path.{_≡_};
 ghost use Rattle.base.specs.Outcome.Outcome.{refused};
 ghost use Rattle.certificate.specs.Layout.{certificateOf};
-ghost use Rattle.safety.specs.Verdicts.{costAt, firstBroken, numberAt, scan, verdictOf};
+ghost use Rattle.safety.specs.Verdicts.{costAt, rulesOn, rulesAt, firstBroken, numberAt, scan, verdictOf};
 ghost use Rattle.checker.specs.Answer.{answered};
-ghost use Rattle.checker.specs.Located.{locatedIn, locatedAt, tested, rulesOn, reportOf};
+ghost use Rattle.checker.specs.Located.{locatedIn, locatedAt, tested};
 ghost use Rattle.certificate.specs.declared.Verdict.the-variants.{Accepted};
 ghost use Rattle.safety.specs.Statement.{Demand3};
 use base::RomAddr;
@@ -16,14 +16,6 @@ use isa::Decoded;
 pub struct Located {
     pub summary: Summary,
     pub next: RomAddr,
-}
-
-// What the program prints of a routine.
-pub struct ReportRow {
-    pub used: bool,
-    pub start: RomAddr,
-    pub need: u8,
-    pub bound: u16,
 }
 
 // What no accepted program has, one byte long.
@@ -118,7 +110,7 @@ fn first_broken(cert: &[u8], a: RomAddr, s: Summary, cost: u8, next: RomAddr) ->
 
 // The number at an address with an entry.
 fn number_in(image: &[u8], cert: &[u8], a: RomAddr) -> u8
-    ensures { λ r. ⌜ r ≡ firstBroken (Rattle.safety.specs.Verdicts.rulesAt (certificateOf (now (cert .entry))) (now (image .entry)) (a .0)) ⌝ }
+    ensures { λ r. ⌜ r ≡ firstBroken (rulesAt (certificateOf (now (cert .entry))) (now (image .entry)) (a .0)) ⌝ }
 {
     let i = instruction_at(image, a);
     let s = i.summary;
@@ -129,7 +121,7 @@ fn number_in(image: &[u8], cert: &[u8], a: RomAddr) -> u8
 fn number_at(image: &[u8], cert: &[u8], a: RomAddr) -> u8
     ensures { λ r. ⌜ r ≡ numberAt (certificateOf (now (cert .entry))) (now (image .entry)) (a .0) ⌝ }
 {
-    let e = entries::entry_at(cert, a);
+    let e = entries::entry_of(entries::entry_part(cert, a));
     if e.routine == 0 {
         return 0;
     }
@@ -164,25 +156,8 @@ pub fn check(image: &[u8], cert: &[u8]) -> Verdict
     if cert.len() != 58498 {
         return Verdict::Refused(7, RomAddr(0));
     }
-    let _image = image[0];
-    let _cert = cert[0];
     if !rule20::rule20(image, cert) {
         return Verdict::Refused(20, RomAddr(0));
     }
     first_refusal(image, cert)
-}
-
-// What the program prints of routine n.
-pub fn row_of(cert: &[u8], n: u8) -> ReportRow
-    ensures { λ r. ⌜ r ≡ reportOf (certificateOf (now (cert .entry))) n ⌝ }
-{
-    let row = entries::routine_row(cert, n);
-    let used = rule20::used(cert, n);
-    let start = row.start;
-    ReportRow {
-        used: used,
-        start: start,
-        need: row.need,
-        bound: row.bound,
-    }
 }

@@ -53,7 +53,7 @@ fn low_in(e: Entry, x: RegAddr) -> u8
 pub fn low(cert: &[u8], a: RomAddr, x: RegAddr) -> u8
     ensures { λ r. ⌜ r ≡ Rattle.safety.specs.Rules.low (certificateOf (now (cert .entry))) (a .0) (x .0) ⌝ }
 {
-    low_in(entries::entry_at(cert, a), x)
+    low_in(entries::entry_of(entries::entry_part(cert, a)), x)
 }
 
 fn high_in(e: Entry, x: RegAddr) -> u8
@@ -71,13 +71,13 @@ fn high_in(e: Entry, x: RegAddr) -> u8
 pub fn high(cert: &[u8], a: RomAddr, x: RegAddr) -> u8
     ensures { λ r. ⌜ r ≡ Rattle.safety.specs.Rules.high (certificateOf (now (cert .entry))) (a .0) (x .0) ⌝ }
 {
-    high_in(entries::entry_at(cert, a), x)
+    high_in(entries::entry_of(entries::entry_part(cert, a)), x)
 }
 
 pub fn claimed(cert: &[u8], a: RomAddr, x: RegAddr) -> bool
     ensures { λ r. ⌜ r ≡ decide (Rattle.safety.specs.Rules.claimed (certificateOf (now (cert .entry))) (a .0) (x .0)) ⌝ }
 {
-    let e = entries::entry_at(cert, a);
+    let e = entries::entry_of(entries::entry_part(cert, a));
     (x.0 != 255) & ((x.0 == e.first.cell.0) | (x.0 == e.second.cell.0))
 }
 
@@ -85,7 +85,7 @@ pub fn claimed(cert: &[u8], a: RomAddr, x: RegAddr) -> bool
 fn narrowed(cert: &[u8], a: RomAddr, x: RegAddr) -> bool
     ensures { λ r. ⌜ r ≡ decide (Rattle.safety.specs.Rules.narrowed (certificateOf (now (cert .entry))) (a .0) (x .0)) ⌝ }
 {
-    let e = entries::entry_at(cert, a);
+    let e = entries::entry_of(entries::entry_part(cert, a));
     (x.0 == e.compare.cell.0) & claimed(cert, a, x)
 }
 
@@ -140,7 +140,7 @@ pub fn has(s: Values, v: u8) -> bool
 pub fn values_left(cert: &[u8], a: RomAddr, e: Edge, x: RegAddr) -> Values
     ensures { λ r. ⌜ r ≡ valuesOf (certificateOf (now (cert .entry))) (a .0) (edgeOf e) (x .0) ⌝ }
 {
-    let n = entries::entry_at(cert, a);
+    let n = entries::entry_of(entries::entry_part(cert, a));
     Values {
         low: low(cert, a, x),
         high: high(cert, a, x),
@@ -205,7 +205,7 @@ fn feasible_for(cert: &[u8], a: RomAddr, e: Edge, x: RegAddr) -> bool
 pub fn feasible(cert: &[u8], a: RomAddr, e: Edge) -> bool
     ensures { λ r. ⌜ r ≡ decide (Rattle.safety.specs.Rules.feasible (certificateOf (now (cert .entry))) (a .0) (edgeOf e)) ⌝ }
 {
-    let n = entries::entry_at(cert, a);
+    let n = entries::entry_of(entries::entry_part(cert, a));
     feasible_for(cert, a, e, n.compare.cell)
 }
 

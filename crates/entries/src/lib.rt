@@ -1,9 +1,9 @@
 // The certificate's parts and fields. Each read is total: past the end a byte counts as 0, as in the definitions.
 ghost use mathlib.Core.Path.{_≡_};
 ghost use lib.ListN.{getD, take, drop};
-ghost use Rattle.certificate.specs.Layout.{entryPart, cellPart, rowPart, certificateOf};
+ghost use Rattle.certificate.specs.Layout.{word, entryPart, cellPart, rowPart, certificateOf};
 ghost use Prim.Native.Nat.{_<_};
-ghost use Rattle.entries.specs.Fields.{word, claimOf, entryOf, cellOf, rowOf};
+ghost use Rattle.entries.specs.Fields.{claimOf, entryFrom, entryOf, cellOf, rowOf};
 use base::RegAddr;
 use base::RomAddr;
 
@@ -78,23 +78,21 @@ fn piece(b: &[u8], i: usize, w: usize) -> &[u8]
 }
 
 // The entry of a ROM address, as that part of the certificate; past the ROM an empty part.
-pub fn entry_part(cert: &[u8], a: usize) -> &[u8]
-    ensures { λ r. ⌜ now r ≡ entryPart (now (cert .entry)) a ⌝ }
+pub fn entry_part(cert: &[u8], a: RomAddr) -> &[u8]
+    ensures part { λ r. ⌜ now r ≡ entryPart (now (cert .entry)) (a .0) ⌝ }
+    ensures fields { λ r. ⌜ entryFrom (now r) ≡ entryOf (certificateOf (now (cert .entry))) (a .0) ⌝ }
 {
-    if a < 4096 {
-        return piece(cert, 14 * a, 14);
+    if a.0 < 4096 {
+        return piece(cert, 14 * a.0 as usize, 14);
     }
     &cert[0..0]
 }
 
 // The row of a register, as that part of the certificate.
-pub fn cell_part(cert: &[u8], x: usize) -> &[u8]
-    ensures { λ r. ⌜ now r ≡ cellPart (now (cert .entry)) x ⌝ }
+pub fn cell_part(cert: &[u8], x: RegAddr) -> &[u8]
+    ensures { λ r. ⌜ now r ≡ cellPart (now (cert .entry)) (x .0) ⌝ }
 {
-    if x < 256 {
-        return piece(cert, 0xE000 + 3 * x, 3);
-    }
-    &cert[0..0]
+    piece(cert, 0xE000 + 3 * x.0 as usize, 3)
 }
 
 // The row of a routine, as that part of the certificate; past the last an empty part.
@@ -107,22 +105,21 @@ pub fn row_part(cert: &[u8], n: usize) -> &[u8]
     &cert[0..0]
 }
 
-// The entry of a ROM address, field by field.
-pub fn entry_at(cert: &[u8], a: RomAddr) -> Entry
-    ensures { λ r. ⌜ r ≡ entryOf (certificateOf (now (cert .entry))) (a .0) ⌝ }
+// The fields of an entry's part.
+pub fn entry_of(part: &[u8]) -> Entry
+    ensures { λ r. ⌜ r ≡ entryFrom (now (part .entry)) ⌝ }
 {
-    let e = entry_part(cert, a.0 as usize);
     Entry {
-        routine: byte_at(e, 0),
-        depth: byte_at(e, 1),
-        base: word_at(e, 2),
-        slope: byte_at(e, 4),
-        direction: byte_at(e, 5),
-        first: claim_at(e, 6),
-        second: claim_at(e, 9),
+        routine: byte_at(part, 0),
+        depth: byte_at(part, 1),
+        base: word_at(part, 2),
+        slope: byte_at(part, 4),
+        direction: byte_at(part, 5),
+        first: claim_at(part, 6),
+        second: claim_at(part, 9),
         compare: Compare {
-            cell: RegAddr(byte_at(e, 12)),
-            number: byte_at(e, 13),
+            cell: RegAddr(byte_at(part, 12)),
+            number: byte_at(part, 13),
         },
     }
 }
@@ -143,7 +140,7 @@ fn claim_at(e: &[u8], i: usize) -> Claim
 pub fn cell_row(cert: &[u8], x: RegAddr) -> CellRow
     ensures { λ r. ⌜ r ≡ cellOf (certificateOf (now (cert .entry))) (x .0) ⌝ }
 {
-    let b = cell_part(cert, x.0 as usize);
+    let b = cell_part(cert, x);
     CellRow {
         class: byte_at(b, 0),
         limit: byte_at(b, 1),

@@ -38,7 +38,7 @@ fn cell_rule(cert: &[u8], x: RegAddr) -> bool
 fn claimable(cert: &[u8], a: RomAddr, x: RegAddr) -> bool
     ensures { λ r. ⌜ r ≡ decide (Rattle.safety.specs.Rules.claimable (certificateOf (now (cert .entry))) (a .0) (x .0)) ⌝ }
 {
-    let e = entries::entry_at(cert, a);
+    let e = entries::entry_of(entries::entry_part(cert, a));
     let row = entries::routine_row(cert, e.routine);
     let cell = entries::cell_row(cert, x);
     (x.0 < 0xD0) & !in_stack(cert, x) & (cell.class == row.side)
@@ -55,7 +55,7 @@ fn claim_rule(cert: &[u8], a: RomAddr, k: Claim) -> bool
 fn compare_rule(cert: &[u8], a: RomAddr) -> bool
     ensures { λ r. ⌜ r ≡ decide (compareRule (certificateOf (now (cert .entry))) (a .0)) ⌝ }
 {
-    let e = entries::entry_at(cert, a);
+    let e = entries::entry_of(entries::entry_part(cert, a));
     let held = claimable(cert, a, e.compare.cell);
     ((e.compare.cell.0 == 255) | held) & ((e.compare.cell.0 != 255) | (e.compare.number == 0))
 }
@@ -64,7 +64,7 @@ fn compare_rule(cert: &[u8], a: RomAddr) -> bool
 fn empty_entry(cert: &[u8], a: RomAddr) -> bool
     ensures { λ r. ⌜ r ≡ decide (emptyEntry (certificateOf (now (cert .entry))) (a .0)) ⌝ }
 {
-    let e = entries::entry_at(cert, a);
+    let e = entries::entry_of(entries::entry_part(cert, a));
     let first = (e.first.cell.0 == 0) & (e.first.low == 0) & (e.first.high == 0);
     let second = (e.second.cell.0 == 0) & (e.second.low == 0) & (e.second.high == 0);
     let compare = (e.compare.cell.0 == 0) & (e.compare.number == 0);
@@ -76,7 +76,7 @@ fn empty_entry(cert: &[u8], a: RomAddr) -> bool
 fn routine_rule(cert: &[u8], a: RomAddr) -> bool
     ensures { λ r. ⌜ r ≡ decide (routineRule (certificateOf (now (cert .entry))) (a .0)) ⌝ }
 {
-    let e = entries::entry_at(cert, a);
+    let e = entries::entry_of(entries::entry_part(cert, a));
     let depth = (e.depth != 255) | (e.routine == 1);
     (e.routine < 64) & used(cert, e.routine) & depth
 }
@@ -85,7 +85,7 @@ fn routine_rule(cert: &[u8], a: RomAddr) -> bool
 fn bound_rule(cert: &[u8], a: RomAddr) -> bool
     ensures { λ r. ⌜ r ≡ decide (boundRule (certificateOf (now (cert .entry))) (a .0)) ⌝ }
 {
-    let e = entries::entry_at(cert, a);
+    let e = entries::entry_of(entries::entry_part(cert, a));
     let slope = (e.direction != 0) | (e.slope == 0);
     let claim = (e.direction == 0) | (e.first.cell.0 != 255);
     let none = (e.base == 0) & (e.slope == 0) & (e.direction == 0);
@@ -96,7 +96,7 @@ fn bound_rule(cert: &[u8], a: RomAddr) -> bool
 fn claims_rule(cert: &[u8], a: RomAddr) -> bool
     ensures { λ r. ⌜ r ≡ decide (claimsRule (certificateOf (now (cert .entry))) (a .0)) ⌝ }
 {
-    let e = entries::entry_at(cert, a);
+    let e = entries::entry_of(entries::entry_part(cert, a));
     let first = claim_rule(cert, a, e.first);
     let second = claim_rule(cert, a, e.second);
     let distinct = (e.first.cell.0 == 255) | (e.first.cell.0 != e.second.cell.0);
@@ -122,7 +122,7 @@ fn entry_rule(cert: &[u8], a: RomAddr) -> bool
 fn address_rule(cert: &[u8], a: RomAddr) -> bool
     ensures { λ r. ⌜ r ≡ decide (addressRule (certificateOf (now (cert .entry))) (a .0)) ⌝ }
 {
-    let e = entries::entry_at(cert, a);
+    let e = entries::entry_of(entries::entry_part(cert, a));
     let n = e.routine;
     ((n != 0) | empty_entry(cert, a)) & ((n == 0) | entry_rule(cert, a))
 }
@@ -139,7 +139,7 @@ fn start_rule(cert: &[u8], n: u8) -> bool
     ensures { λ r. ⌜ r ≡ decide (startRule (certificateOf (now (cert .entry))) n) ⌝ }
 {
     let row = entries::routine_row(cert, n);
-    let e = entries::entry_at(cert, row.start);
+    let e = entries::entry_of(entries::entry_part(cert, row.start));
     let own = (e.routine == n) & (e.depth == start_depth(n));
     !used(cert, n) | (row.start.0 < 4096) & own & ((row.side == 1) | (row.side == 2))
 }
@@ -148,7 +148,7 @@ fn start_rule(cert: &[u8], n: u8) -> bool
 fn bare_rule(cert: &[u8], a: RomAddr) -> bool
     ensures { λ r. ⌜ r ≡ decide (bareRule (certificateOf (now (cert .entry))) (a .0)) ⌝ }
 {
-    let e = entries::entry_at(cert, a);
+    let e = entries::entry_of(entries::entry_part(cert, a));
     (e.first.cell.0 == 255) & (e.second.cell.0 == 255) & (e.compare.cell.0 == 255)
 }
 

@@ -77,7 +77,7 @@ fn claim_follows(cert: &[u8], a: RomAddr, e: Edge, w: Write, k: Claim) -> bool
 fn claims_follow(cert: &[u8], a: RomAddr, e: Edge, w: Write) -> bool
     ensures { λ r. ⌜ r ≡ decide (claimsFollow (certificateOf (now (cert .entry))) (a .0) (edgeOf e) w) ⌝ }
 {
-    let t = entries::entry_at(cert, e.to);
+    let t = entries::entry_of(entries::entry_part(cert, e.to));
     claim_follows(cert, a, e, w, t.first) & claim_follows(cert, a, e, w, t.second)
 }
 
@@ -96,8 +96,8 @@ fn unchanged_by(cert: &[u8], a: RomAddr, w: Write, x: RegAddr) -> bool
 fn flags_follow(cert: &[u8], a: RomAddr, w: Write, f: FlagEffect, t: RomAddr) -> bool
     ensures { λ r. ⌜ r ≡ decide (flagsFollow (certificateOf (now (cert .entry))) (a .0) w f (t .0)) ⌝ }
 {
-    let own = entries::entry_at(cert, a);
-    let to = entries::entry_at(cert, t);
+    let own = entries::entry_of(entries::entry_part(cert, a));
+    let to = entries::entry_of(entries::entry_part(cert, t));
     match f {
         FlagEffect::Kept => {
             let number = to.compare.number == own.compare.number;
@@ -112,7 +112,7 @@ fn flags_follow(cert: &[u8], a: RomAddr, w: Write, f: FlagEffect, t: RomAddr) ->
 fn compare_follows(cert: &[u8], a: RomAddr, w: Write, f: FlagEffect, t: RomAddr) -> bool
     ensures { λ r. ⌜ r ≡ decide (compareFollows (certificateOf (now (cert .entry))) (a .0) w f (t .0)) ⌝ }
 {
-    let to = entries::entry_at(cert, t);
+    let to = entries::entry_of(entries::entry_part(cert, t));
     (to.compare.cell.0 == 255) | flags_follow(cert, a, w, f, t)
 }
 
@@ -175,8 +175,8 @@ fn claim_survives(cert: &[u8], a: RomAddr, k: u8, c: Claim) -> bool
 fn call26(cert: &[u8], a: RomAddr, next: RomAddr, t: RomAddr) -> bool
     ensures { λ r. ⌜ r ≡ decide (Rattle.safety.specs.Rules.call26 (certificateOf (now (cert .entry))) (a .0) (next .0) (t .0)) ⌝ }
 {
-    let to = entries::entry_at(cert, t);
-    let behind = entries::entry_at(cert, next);
+    let to = entries::entry_of(entries::entry_part(cert, t));
+    let behind = entries::entry_of(entries::entry_part(cert, next));
     let e = Edge {
         condition: 8,
         outcome: true,

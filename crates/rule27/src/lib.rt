@@ -117,7 +117,7 @@ fn first_values(cert: &[u8], a: RomAddr, e: Edge, x: RegAddr) -> Values
 fn paid(cert: &[u8], a: RomAddr, e: Edge, cost: u8, f: After) -> bool
     ensures { λ r. ⌜ r ≡ decide (Rattle.safety.specs.Rules.paid (certificateOf (now (cert .entry))) (a .0) (edgeOf e) cost (afterOf f)) ⌝ }
 {
-    let n = entries::entry_at(cert, a);
+    let n = entries::entry_of(entries::entry_part(cert, a));
     if n.routine == 1 {
         return true;
     }
@@ -128,8 +128,8 @@ fn paid(cert: &[u8], a: RomAddr, e: Edge, cost: u8, f: After) -> bool
 fn same_first(cert: &[u8], a: RomAddr, t: RomAddr) -> bool
     ensures { λ r. ⌜ r ≡ sameFirst (certificateOf (now (cert .entry))) (a .0) (t .0) ⌝ }
 {
-    let own = entries::entry_at(cert, a);
-    let to = entries::entry_at(cert, t);
+    let own = entries::entry_of(entries::entry_part(cert, a));
+    let to = entries::entry_of(entries::entry_part(cert, t));
     (to.first.cell.0 == own.first.cell.0) & (own.first.cell.0 != 255)
 }
 
@@ -153,11 +153,11 @@ fn along(c: Change, e: Entry) -> After
 fn after_edge(cert: &[u8], a: RomAddr, w: Write, t: RomAddr) -> After
     ensures { λ r. ⌜ ((c : ℕ) → afterOf r c ≡ boundAfter (certificateOf (now (cert .entry))) (a .0) w (t .0) c) ⌝ }
 {
-    let to = entries::entry_at(cert, t);
+    let to = entries::entry_of(entries::entry_part(cert, t));
     if !same_first(cert, a, t) {
         return After::Worst(0, to);
     }
-    let own = entries::entry_at(cert, a);
+    let own = entries::entry_of(entries::entry_part(cert, a));
     along(claims::change_of(cert, a, w, own.first.cell), to)
 }
 
@@ -175,12 +175,16 @@ fn after_callee(kept: bool, bound: u16, e: Entry) -> After
 fn after_call(cert: &[u8], a: RomAddr, next: RomAddr, t: RomAddr) -> After
     ensures { λ r. ⌜ ((c : ℕ) → afterOf r c ≡ boundAfterCall (certificateOf (now (cert .entry))) (a .0) (next .0) (t .0) c) ⌝ }
 {
-    let to = entries::entry_at(cert, t);
+    let to = entries::entry_of(entries::entry_part(cert, t));
     let callee = entries::routine_row(cert, to.routine);
-    let own = entries::entry_at(cert, a);
+    let own = entries::entry_of(entries::entry_part(cert, a));
     let cell = entries::cell_row(cert, own.first.cell);
     let kept = same_first(cert, a, next) & (cell.limit < to.routine);
-    after_callee(kept, callee.bound, entries::entry_at(cert, next))
+    after_callee(
+        kept,
+        callee.bound,
+        entries::entry_of(entries::entry_part(cert, next)),
+    )
 }
 
 fn edge27(cert: &[u8], a: RomAddr, s: Summary, cost: u8, e: Edge) -> bool
@@ -249,7 +253,7 @@ fn return27(cert: &[u8], a: RomAddr, cost: u8) -> bool
 fn row_rule(cert: &[u8], a: RomAddr) -> bool
     ensures { λ r. ⌜ r ≡ decide (rowRule (certificateOf (now (cert .entry))) (a .0)) ⌝ }
 {
-    let e = entries::entry_at(cert, a);
+    let e = entries::entry_of(entries::entry_part(cert, a));
     let row = entries::routine_row(cert, e.routine);
     let worst = claims::worst(e);
     (e.routine == 1) | ((row.start.0 != a.0) | (worst <= row.bound as u32))

@@ -1,7 +1,7 @@
 -- Parts of rules 21 and 25, as the checker's code goes through them.
 -- Assumes nothing.
-use Prim.Native.Nat.{ℕ, _+_}
-use Rattle.base.specs.Formula.{Formula, eq, le, _&_, _⇒_}
+use Prim.Native.Nat.{ℕ}
+use Rattle.base.specs.Formula.{Formula, eq, _&_}
 use Rattle.certificate.specs.declared.Flow.{Flow}
 use Rattle.certificate.specs.declared.StackEffect.{StackEffect}
 use Rattle.certificate.specs.Layout.{Certificate}
@@ -18,7 +18,3 @@ module _ (C : Certificate) (a : ℕ) where
   -- each successor's depth is as the instruction makes it
   abbrev pub edges25 : Flow → StackEffect → ℕ → Formula
   edges25 f k next = edges C f next (λ e. eq (C .depth (e .to)) (depthAfter C k (C .depth a)))
-
-  -- at 0100H, need(1) + 3 + need(2) above T - F
-  abbrev pub stackFits : Formula
-  stackFits = eq a 0x100 ⇒ le (C .need 1 + 3 + C .need 2 + C .floor) (C .top)

@@ -4,8 +4,8 @@ ghost use Prim.Native.Nat.{_+_};
 ghost use Rattle.base.specs.Formula.{decide, eq, _&_};
 ghost use Rattle.certificate.specs.Layout.{certificateOf};
 ghost use Rattle.safety.specs.Rules.{controlAllowed, flowAllowed, callTarget, calls, ends, mapped, directRead, directWrite};
-ghost use Rattle.safety.specs.Rules.{stackLoad, pointedRead, pointedWrite, codeInRom, depthAfter, stackRule, enableRule, callDepth};
-ghost use Rattle.rules.specs.Flows.{stackFits};
+ghost use Rattle.safety.specs.Rules.{stackLoad, pointedRead, pointedWrite, codeInRom, depthAfter, stackRule, enableRule, callDepth, stackFits};
+ghost use Rattle.rules.specs.Flows;
 ghost use Rattle.rules.specs.Tables.{touched, inTable, oneTable};
 use base::RegAddr;
 use base::RomAddr;
@@ -21,7 +21,7 @@ use certificate::Write;
 fn side_at(cert: &[u8], a: RomAddr) -> u8
     ensures { λ r. ⌜ r ≡ certificateOf (now (cert .entry)) .side (certificateOf (now (cert .entry)) .routine (a .0)) ⌝ }
 {
-    let e = entries::entry_at(cert, a);
+    let e = entries::entry_of(entries::entry_part(cert, a));
     let row = entries::routine_row(cert, e.routine);
     row.side
 }
@@ -42,7 +42,7 @@ fn control_allowed(cert: &[u8], a: RomAddr, k: Control) -> bool
 fn flow_allowed(cert: &[u8], a: RomAddr, f: Flow) -> bool
     ensures { λ r. ⌜ r ≡ decide (flowAllowed (certificateOf (now (cert .entry))) (a .0) f) ⌝ }
 {
-    let e = entries::entry_at(cert, a);
+    let e = entries::entry_of(entries::entry_part(cert, a));
     match f {
         Flow::Step(_, _) => true,
         Flow::Call(_) => true,
@@ -65,8 +65,8 @@ pub fn rule22(cert: &[u8], a: RomAddr, s: Summary) -> bool
 fn successor(cert: &[u8], a: RomAddr, t: RomAddr) -> bool
     ensures { λ r. ⌜ r ≡ decide (Rattle.safety.specs.Rules.successor (certificateOf (now (cert .entry))) (a .0) (t .0)) ⌝ }
 {
-    let e = entries::entry_at(cert, a);
-    let to = entries::entry_at(cert, t);
+    let e = entries::entry_of(entries::entry_part(cert, a));
+    let to = entries::entry_of(entries::entry_part(cert, t));
     (t.0 < 4096) & (to.routine == e.routine)
 }
 
@@ -74,8 +74,8 @@ fn successor(cert: &[u8], a: RomAddr, t: RomAddr) -> bool
 fn call_target(cert: &[u8], a: RomAddr, t: RomAddr) -> bool
     ensures { λ r. ⌜ r ≡ decide (callTarget (certificateOf (now (cert .entry))) (a .0) (t .0)) ⌝ }
 {
-    let e = entries::entry_at(cert, a);
-    let to = entries::entry_at(cert, t);
+    let e = entries::entry_of(entries::entry_part(cert, a));
+    let to = entries::entry_of(entries::entry_part(cert, t));
     let row = entries::routine_row(cert, to.routine);
     let start = row.start.0 == t.0;
     (t.0 < 4096) & ((e.routine < to.routine) & (start & (row.side == side_at(cert, a))))
@@ -118,7 +118,7 @@ pub fn rule21(cert: &[u8], a: RomAddr, s: Summary, next: RomAddr) -> bool
 fn writable(cert: &[u8], a: RomAddr, x: RegAddr) -> bool
     ensures { λ r. ⌜ r ≡ decide (Rattle.safety.specs.Rules.writable (certificateOf (now (cert .entry))) (a .0) (x .0)) ⌝ }
 {
-    let e = entries::entry_at(cert, a);
+    let e = entries::entry_of(entries::entry_part(cert, a));
     let row = entries::cell_row(cert, x);
     let class = (row.class == side_at(cert, a)) | (row.class == 3);
     class & (e.routine <= row.limit)
@@ -162,7 +162,7 @@ fn direct_write(cert: &[u8], a: RomAddr, w: Write) -> bool
 fn stack_load(cert: &[u8], a: RomAddr, k: StackEffect) -> bool
     ensures { λ r. ⌜ r ≡ decide (stackLoad (certificateOf (now (cert .entry))) (a .0) k) ⌝ }
 {
-    let e = entries::entry_at(cert, a);
+    let e = entries::entry_of(entries::entry_part(cert, a));
     match k {
         StackEffect::Same => true,
         StackEffect::Push => true,
@@ -183,7 +183,7 @@ pub fn rule23(cert: &[u8], a: RomAddr, s: Summary) -> bool
     direct_read(cert, first) & (direct_read(cert, second) & written)
 }
 
-// x, if it is among from to upto, is of table t, and where the pointer writes it may be written.
+// x is of the same table as `from`, and where the pointer writes, x may be written.
 fn in_table(cert: &[u8], a: RomAddr, from: u8, writing: bool, x: RegAddr) -> bool
     ensures { λ r. ⌜ r ≡ decide (inTable (certificateOf (now (cert .entry))) (a .0) from writing (x .0)) ⌝ }
 {
@@ -299,7 +299,7 @@ fn depth_after(cert: &[u8], k: StackEffect, d: u8) -> u16
 fn stack_rule(cert: &[u8], a: RomAddr, k: StackEffect) -> bool
     ensures { λ r. ⌜ r ≡ decide (stackRule (certificateOf (now (cert .entry))) (a .0) k) ⌝ }
 {
-    let e = entries::entry_at(cert, a);
+    let e = entries::entry_of(entries::entry_part(cert, a));
     let row = entries::routine_row(cert, e.routine);
     match k {
         StackEffect::Same => true,
@@ -313,7 +313,7 @@ fn stack_rule(cert: &[u8], a: RomAddr, k: StackEffect) -> bool
 fn enable_rule(cert: &[u8], a: RomAddr, k: Control) -> bool
     ensures { λ r. ⌜ r ≡ decide (enableRule (certificateOf (now (cert .entry))) (a .0) k) ⌝ }
 {
-    let e = entries::entry_at(cert, a);
+    let e = entries::entry_of(entries::entry_part(cert, a));
     match k {
         Control::Nothing => true,
         Control::Enable => e.depth != 255,
@@ -326,9 +326,9 @@ fn enable_rule(cert: &[u8], a: RomAddr, k: Control) -> bool
 fn call_depth(cert: &[u8], a: RomAddr, next: RomAddr, t: RomAddr) -> bool
     ensures { λ r. ⌜ r ≡ decide (callDepth (certificateOf (now (cert .entry))) (a .0) (next .0) (t .0)) ⌝ }
 {
-    let e = entries::entry_at(cert, a);
-    let behind = entries::entry_at(cert, next);
-    let to = entries::entry_at(cert, t);
+    let e = entries::entry_of(entries::entry_part(cert, a));
+    let behind = entries::entry_of(entries::entry_part(cert, next));
+    let to = entries::entry_of(entries::entry_part(cert, t));
     let callee = entries::routine_row(cert, to.routine);
     let own = entries::routine_row(cert, e.routine);
     let sum = e.depth as u16 + 2 + callee.need as u16;
@@ -338,12 +338,12 @@ fn call_depth(cert: &[u8], a: RomAddr, next: RomAddr, t: RomAddr) -> bool
 fn edges25(cert: &[u8], a: RomAddr, f: Flow, k: StackEffect, next: RomAddr) -> bool
     ensures { λ r. ⌜ r ≡ decide (Rattle.rules.specs.Flows.edges25 (certificateOf (now (cert .entry))) (a .0) f k (next .0)) ⌝ }
 {
-    let e = entries::entry_at(cert, a);
+    let e = entries::entry_of(entries::entry_part(cert, a));
     let depth = depth_after(cert, k, e.depth);
-    let behind = entries::entry_at(cert, next);
+    let behind = entries::entry_of(entries::entry_part(cert, next));
     match f {
         Flow::Step(cc, to) => {
-            let there = entries::entry_at(cert, to);
+            let there = entries::entry_of(entries::entry_part(cert, to));
             ((cc == 8) | (behind.depth as u16 == depth))
                 & ((cc == 0) | (there.depth as u16 == depth))
         }
@@ -370,7 +370,7 @@ fn calls25(cert: &[u8], a: RomAddr, f: Flow, next: RomAddr) -> bool
 fn ends25(cert: &[u8], a: RomAddr, f: Flow) -> bool
     ensures { λ r. ⌜ r ≡ decide (ends (certificateOf (now (cert .entry))) f (eq (certificateOf (now (cert .entry)) .depth (a .0)) 0)) ⌝ }
 {
-    let e = entries::entry_at(cert, a);
+    let e = entries::entry_of(entries::entry_part(cert, a));
     match f {
         Flow::Step(_, _) => true,
         Flow::Call(_) => true,

@@ -14,7 +14,7 @@ use Rattle.certificate.specs.declared.Verdict.{Verdict}
 use Rattle.certificate.specs.declared.Verdict.the-variants.{Accepted, Refused}
 use Rattle.certificate.specs.Layout.{Certificate}
 use Rattle.safety.specs.Rules.{romEnd, rule20, rule21, rule22, rule23, rule24, rule25, rule26, rule27}
-use Rattle.safety.specs.Verdicts.{Rule, summaryAt, nextAt, costAt, rulesAt, firstBroken, numberAt, scan, verdictOn}
+use Rattle.safety.specs.Verdicts.{Rule, summaryAt, nextAt, costAt, rulesOn, rulesAt, firstBroken, numberAt, scan, verdictOn}
 
 isAccepted : Verdict → ℕ
 isAccepted Accepted = 0
@@ -56,7 +56,7 @@ pub record RulesHold (C : Certificate) (image : List ℕ) (a : ℕ) : Type 0 whe
   pub r27 : Holds (rule27 C a (summaryAt image a) (costAt image a) (nextAt image a))
 
 named : (C : Certificate) (image : List ℕ) (a : ℕ) → Every (rulesAt C image a) → RulesHold C image a
-unfolding rulesAt
+unfolding rulesOn
 named C image a e =
     record {
       r21 = e .0;
@@ -70,7 +70,7 @@ named C image a e =
 
 zero-number : (C : Certificate) (image : List ℕ) (a : ℕ) (b : Bool) → eqb (C .routine a) 0 ≡ b → C .routine a ≢ 0
     → _≡_ {A = ℕ} (elim b [ true ↦ 0 | false ↦ firstBroken (rulesAt C image a) ]) 0 → RulesHold C image a
-unfolding rulesAt
+unfolding rulesOn
 zero-number C image a true e n h = absurd (n (eqb→eq (C .routine a) 0 (of-true (eqb (C .routine a) 0) e)))
 zero-number C image a false e n h =
     named C image a (none-broken (rulesAt C image a) (omega arith, (omega arith, (omega arith, (omega arith, (omega arith, (omega arith, (omega arith, tt))))))) h)

@@ -343,6 +343,9 @@ module _ (C : Certificate) where
       loaded a & eq (C .depth next) (C .depth a) & le (C .depth a + 2 + C .need (callee t)) (C .need (C .routine a))
 
   -- at 0100H, need(1) + 3 + need(2) above T - F
+  abbrev pub stackFits : ℕ → Formula
+  stackFits a = eq a 0x100 ⇒ le (C .need 1 + 3 + C .need 2 + C .floor) (C .top)
+
   unfoldable pub rule25 : ℕ → Summary → ℕ → Formula
   rule25 a S next =
       stackRule a (S .stack)
@@ -350,7 +353,7 @@ module _ (C : Certificate) where
       & edges (S .flow) next (λ e. eq (C .depth (e .to)) (depthAfter (S .stack) (C .depth a)))
       & calls (S .flow) (callDepth a next)
       & ends (S .flow) (eq (C .depth a) 0)
-      & (eq a 0x100 ⇒ le (C .need 1 + 3 + C .need 2 + C .floor) (C .top))
+      & stackFits a
 
   -- Rule 26 --
 

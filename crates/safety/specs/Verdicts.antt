@@ -44,12 +44,9 @@ pub record Rule : Type 0 where
   pub number : ℕ
   pub formula : Formula
 
--- the rules at an address with an entry, lowest number first
-unfoldable pub rulesAt : Certificate → List ℕ → ℕ → List Rule
-rulesAt C image a =
-    let S = summaryAt image a in
-    let next = nextAt image a in
-    let cost = costAt image a in
+-- the rules on an instruction at an address, lowest number first: S its summary, next the address behind it
+unfoldable pub rulesOn : Certificate → ℕ → Summary → ℕ → ℕ → List Rule
+rulesOn C a S next cost =
     record { number = 21; formula = rule21 C a S next }
     ∷ record { number = 22; formula = rule22 C a S }
     ∷ record { number = 23; formula = rule23 C a S }
@@ -58,6 +55,10 @@ rulesAt C image a =
     ∷ record { number = 26; formula = rule26 C a S next }
     ∷ record { number = 27; formula = rule27 C a S cost next }
     ∷ []
+
+-- the rules at an address with an entry
+abbrev pub rulesAt : Certificate → List ℕ → ℕ → List Rule
+rulesAt C image a = rulesOn C a (summaryAt image a) (nextAt image a) (costAt image a)
 
 -- the first rule of a list that is broken, or 0
 unfoldable pub firstBroken : List Rule → ℕ

@@ -15,23 +15,17 @@ returns c = let i = c .before .before .before .args .image .now in let k = c .be
 returns-2 : tie.Need-returns-2
 returns-2 c = let i = c .before .before .before .before .args .image .now in let k = c .before .before .before .before .args .cert .now in let p = certificate-length i k (c .before .if1 .left) (c .if2 .taken) in (p, (ap answered p, λ h. absurd (never-refused _ _ h)))
 
-shared-slice-read--image : tie.Need-shared-slice-read--image
-shared-slice-read--image c = search needs
-
-shared-slice-read--cert : tie.Need-shared-slice-read--cert
-shared-slice-read--cert c = search needs
-
 rule20-requires : tie.Need-rule20-requires
 rule20-requires c κs = search needs
 
 returns-3 : tie.Need-returns-3
-returns-3 c = let i = c .before .before .before .before .before .before .before .before .args .image .now in let k = c .before .before .before .before .before .before .before .before .args .cert .now in let p = layout-broken i k (c .before .before .before .before .before .if1 .left) (c .before .before .before .before .if2 .left) (sym (c .before .rule20 .ensures) ∙ not-true _ (c .if3 .taken)) in (p, (ap answered p, λ h. absurd (never-refused _ _ h)))
+returns-3 c = let i = c .before .before .before .before .before .before .args .image .now in let k = c .before .before .before .before .before .before .args .cert .now in let p = layout-broken i k (c .before .before .before .if1 .left) (c .before .before .if2 .left) (sym (c .before .rule20 .ensures) ∙ not-true _ (c .if3 .taken)) in (p, (ap answered p, λ h. absurd (never-refused _ _ h)))
 
 first-refusal-requires : tie.Need-first-refusal-requires
 first-refusal-requires c κs = search needs
 
 returns-4 : tie.Need-returns-4
-returns-4 c = let i = c .before .before .before .before .before .before .before .before .before .args .image .now in let k = c .before .before .before .before .before .before .before .before .before .args .cert .now in let p = c .first-refusal .ensures ∙ layout-holds i k (c .before .before .before .before .before .before .if1 .left) (c .before .before .before .before .before .if2 .left) (sym (c .before .before .rule20 .ensures) ∙ not-false _ (c .before .if3 .left)) in (p, (ap answered p, λ h. demand3 i k (λ n. omega (arith, c .before .before .before .before .shared-slice-known3 .given n)) (λ n. omega (arith, c .before .before .before .shared-slice-known4 .given n)) (sym p ∙ h)))
+returns-4 c = let i = c .before .before .before .before .before .before .before .args .image .now in let k = c .before .before .before .before .before .before .before .args .cert .now in let p = c .first-refusal .ensures ∙ layout-holds i k (c .before .before .before .before .if1 .left) (c .before .before .before .if2 .left) (sym (c .before .before .rule20 .ensures) ∙ not-false _ (c .before .if3 .left)) in (p, (ap answered p, λ h. demand3 i k (λ n. omega (arith, c .before .before .before .before .before .before .shared-slice-known .given n)) (λ n. omega (arith, c .before .before .before .before .before .shared-slice-known2 .given n)) (sym p ∙ h)))
 
 pub check-spec : {M : Type 1} → statement M
 check-spec =
@@ -39,8 +33,6 @@ check-spec =
     (tie.spec
     returns
     returns-2
-    shared-slice-read--image
-    shared-slice-read--cert
     rule20-requires
     returns-3
     first-refusal-requires

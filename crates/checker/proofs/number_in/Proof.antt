@@ -1,6 +1,6 @@
 use Rattle.checker.specs.declared.Located.{Located}
-use Rattle.safety.specs.Verdicts.{firstBroken, rulesAt, summaryAt, nextAt}
-use Rattle.checker.specs.Located.{locatedIn, rulesOn}
+use Rattle.safety.specs.Verdicts.{rulesOn, firstBroken, summaryAt, nextAt}
+use Rattle.checker.specs.Located.{locatedIn}
 use Rattle.certificate.specs.Layout.{certificateOf}
 use Prim.Native.Nat.{ℕ, _-_}
 use mathlib.Core.Path.{ap, _∙_}
@@ -18,7 +18,7 @@ first-broken-requires : tie.Need-first-broken-requires
 first-broken-requires c κs = search needs
 
 returns : tie.Need-returns
-unfolding rulesAt rulesOn locatedIn summaryAt nextAt
+unfolding locatedIn summaryAt nextAt
 returns c =
     let g = c .before .before .before .before .before .before .args in
     let C = certificateOf (g .cert .now) in

@@ -9,8 +9,11 @@ use borrow.Author.Needs.{needs}
 use Rattle.claims.proofs.feasible.Statement.{statement}
 use Rattle.claims.proofs.feasible.Tie as tie
 
-entry-at-requires : tie.Need-entry-at-requires
-entry-at-requires c κs = search needs
+entry-part-requires : tie.Need-entry-part-requires
+entry-part-requires c κs = search needs
+
+entry-of-requires : tie.Need-entry-of-requires
+entry-of-requires c κs = search needs
 
 feasible-for-requires : tie.Need-feasible-for-requires
 feasible-for-requires c κs = search needs
@@ -18,9 +21,9 @@ feasible-for-requires c κs = search needs
 returns : tie.Need-returns
 unfolding feasible feasibleFor
 returns c =
-    let g = c .before .before .before .args in
+    let g = c .before .before .before .before .args in
     let C = certificateOf (g .cert .now) in
-    c .feasible-for .ensures ∙ ap (λ (n : Entry). decide (feasibleFor C (g .a .0) (edgeOf (g .e)) (n .compare .cell .0))) (c .before .entry-at .ensures)
+    c .feasible-for .ensures ∙ ap (λ (n : Entry). decide (feasibleFor C (g .a .0) (edgeOf (g .e)) (n .compare .cell .0))) (c .before .entry-of .ensures ∙ c .before .before .entry-part .ensures .1)
 
 pub feasible-spec : {M : Type 1} → statement M
-feasible-spec = tie.close (tie.spec entry-at-requires feasible-for-requires returns)
+feasible-spec = tie.close (tie.spec entry-part-requires entry-of-requires feasible-for-requires returns)

@@ -4,15 +4,18 @@ use borrow.Author.Needs.{needs}
 use Rattle.claims.proofs.high.Statement.{statement}
 use Rattle.claims.proofs.high.Tie as tie
 
-entry-at-requires : tie.Need-entry-at-requires
-entry-at-requires c κs = search needs
+entry-part-requires : tie.Need-entry-part-requires
+entry-part-requires c κs = search needs
+
+entry-of-requires : tie.Need-entry-of-requires
+entry-of-requires c κs = search needs
 
 high-in-requires : tie.Need-high-in-requires
 high-in-requires c κs = search needs
 
 returns : tie.Need-returns
 unfolding high highIn
-returns c = simp (c .high-in .ensures, c .before .entry-at .ensures)
+returns c = simp (c .high-in .ensures, c .before .entry-of .ensures, c .before .before .entry-part .ensures .1)
 
 pub high-spec : {M : Type 1} → statement M
-high-spec = tie.close (tie.spec entry-at-requires high-in-requires returns)
+high-spec = tie.close (tie.spec entry-part-requires entry-of-requires high-in-requires returns)

@@ -4,15 +4,18 @@ use borrow.Author.Needs.{needs}
 use Rattle.claims.proofs.low.Statement.{statement}
 use Rattle.claims.proofs.low.Tie as tie
 
-entry-at-requires : tie.Need-entry-at-requires
-entry-at-requires c κs = search needs
+entry-part-requires : tie.Need-entry-part-requires
+entry-part-requires c κs = search needs
+
+entry-of-requires : tie.Need-entry-of-requires
+entry-of-requires c κs = search needs
 
 low-in-requires : tie.Need-low-in-requires
 low-in-requires c κs = search needs
 
 returns : tie.Need-returns
 unfolding low lowIn
-returns c = simp (c .low-in .ensures, c .before .entry-at .ensures)
+returns c = simp (c .low-in .ensures, c .before .entry-of .ensures, c .before .before .entry-part .ensures .1)
 
 pub low-spec : {M : Type 1} → statement M
-low-spec = tie.close (tie.spec entry-at-requires low-in-requires returns)
+low-spec = tie.close (tie.spec entry-part-requires entry-of-requires low-in-requires returns)

@@ -1,9 +1,13 @@
 use lib.Seq.{drop-drop}
+use native.Mathlib.Omega.{arith}
 use Rattle.certificate.specs.Layout.{part}
-use borrow.Author.Tests.{lt-ltb, le-ltb}
+use borrow.Author.Tests.{lt-ltb}
 use borrow.Author.Needs.{needs}
 use Rattle.entries.proofs.cell_part.Statement.{statement}
 use Rattle.entries.proofs.cell_part.Tie as tie
+
+cast-piece : tie.Need-cast-piece
+cast-piece c = search needs
 
 mul-piece : tie.Need-mul-piece
 mul-piece c = search needs
@@ -16,30 +20,7 @@ piece-requires c κs = search needs
 
 returns : tie.Need-returns
 unfolding part
-returns c = rw (part, lt-ltb _ _ (c .before .if1 .taken), drop-drop) (c .piece .ensures)
-
-sub-result : tie.Need-sub-result
-sub-result c = search needs
-
-part-result-start : tie.Need-part-result-start
-part-result-start c = search needs
-
-part-result-end : tie.Need-part-result-end
-part-result-end c = search needs
-
-returns-2 : tie.Need-returns-2
-unfolding part
-returns-2 c = rw (part, le-ltb _ _ (c .before .if1 .left))
+returns c = rw (part, lt-ltb (c .before .before .before .args .x .0) 256 (omega arith), drop-drop) (c .piece .ensures)
 
 pub cell-part-spec : {M : Type 1} → statement M
-cell-part-spec =
-    tie.close
-    (tie.spec
-    mul-piece
-    add-piece
-    piece-requires
-    returns
-    sub-result
-    part-result-start
-    part-result-end
-    returns-2)
+cell-part-spec = tie.close (tie.spec cast-piece mul-piece add-piece piece-requires returns)

@@ -3,9 +3,6 @@ use borrow.Author.Needs.{needs}
 use Rattle.entries.proofs.cell_row.Statement.{statement}
 use Rattle.entries.proofs.cell_row.Tie as tie
 
-cast-cell-part : tie.Need-cast-cell-part
-cast-cell-part c = search needs
-
 cell-part-requires : tie.Need-cell-part-requires
 cell-part-requires c κs = search needs
 
@@ -26,7 +23,6 @@ pub cell-row-spec : {M : Type 1} → statement M
 cell-row-spec =
     tie.close
     (tie.spec
-    cast-cell-part
     cell-part-requires
     byte-at-requires
     byte-at-requires-2

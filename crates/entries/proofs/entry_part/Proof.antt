@@ -1,8 +1,12 @@
 use Rattle.certificate.specs.Layout.{part}
+use Rattle.entries.proofs.Pieces.{with-fields}
 use borrow.Author.Tests.{lt-ltb, le-ltb}
 use borrow.Author.Needs.{needs}
 use Rattle.entries.proofs.entry_part.Statement.{statement}
 use Rattle.entries.proofs.entry_part.Tie as tie
+
+cast-piece : tie.Need-cast-piece
+cast-piece c = search needs
 
 mul-piece : tie.Need-mul-piece
 mul-piece c = search needs
@@ -12,7 +16,7 @@ piece-requires c κs = search needs
 
 returns : tie.Need-returns
 unfolding part
-returns c = rw (part, lt-ltb _ _ (c .before .if1 .taken)) (c .piece .ensures)
+returns c = with-fields _ _ _ (rw (part, lt-ltb _ _ (c .before .before .if1 .taken)) (c .piece .ensures))
 
 sub-result : tie.Need-sub-result
 sub-result c = search needs
@@ -25,12 +29,13 @@ part-result-end c = search needs
 
 returns-2 : tie.Need-returns-2
 unfolding part
-returns-2 c = rw (part, le-ltb _ _ (c .before .if1 .left))
+returns-2 c = with-fields _ _ _ (rw (part, le-ltb _ _ (c .before .if1 .left)))
 
 pub entry-part-spec : {M : Type 1} → statement M
 entry-part-spec =
     tie.close
     (tie.spec
+    cast-piece
     mul-piece
     piece-requires
     returns

@@ -4,11 +4,17 @@ use borrow.Author.Needs.{needs}
 use Rattle.rule26.proofs.call26.Statement.{statement}
 use Rattle.rule26.proofs.call26.Tie as tie
 
-entry-at-requires : tie.Need-entry-at-requires
-entry-at-requires c κs = search needs
+entry-part-requires : tie.Need-entry-part-requires
+entry-part-requires c κs = search needs
 
-entry-at-requires-2 : tie.Need-entry-at-requires-2
-entry-at-requires-2 c κs = search needs
+entry-of-requires : tie.Need-entry-of-requires
+entry-of-requires c κs = search needs
+
+entry-part-requires-2 : tie.Need-entry-part-requires-2
+entry-part-requires-2 c κs = search needs
+
+entry-of-requires-2 : tie.Need-entry-of-requires-2
+entry-of-requires-2 c κs = search needs
 
 claim-survives-requires : tie.Need-claim-survives-requires
 claim-survives-requires c κs = search needs
@@ -24,14 +30,16 @@ compare-follows-requires c κs = search needs
 
 returns : tie.Need-returns
 unfolding call26
-returns c = simp (c .before .compare-follows .ensures, c .before .before .claims-follow .ensures, c .before .before .before .claim-survives2 .ensures, c .before .before .before .before .claim-survives .ensures, c .before .before .before .before .before .entry-at2 .ensures, c .before .before .before .before .before .before .entry-at .ensures, and-assoc, or-assoc, Bool·not-not)
+returns c = simp (c .before .compare-follows .ensures, c .before .before .claims-follow .ensures, c .before .before .before .claim-survives2 .ensures, c .before .before .before .before .claim-survives .ensures, c .before .before .before .before .before .entry-of2 .ensures, c .before .before .before .before .before .before .entry-part2 .ensures .1, c .before .before .before .before .before .before .before .entry-of .ensures, c .before .before .before .before .before .before .before .before .entry-part .ensures .1, and-assoc, or-assoc, Bool·not-not)
 
 pub call26-spec : {M : Type 1} → statement M
 call26-spec =
     tie.close
     (tie.spec
-    entry-at-requires
-    entry-at-requires-2
+    entry-part-requires
+    entry-of-requires
+    entry-part-requires-2
+    entry-of-requires-2
     claim-survives-requires
     claim-survives-requires-2
     claims-follow-requires

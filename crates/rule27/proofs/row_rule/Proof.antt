@@ -5,8 +5,11 @@ use borrow.Author.Needs.{needs}
 use Rattle.rule27.proofs.row_rule.Statement.{statement}
 use Rattle.rule27.proofs.row_rule.Tie as tie
 
-entry-at-requires : tie.Need-entry-at-requires
-entry-at-requires c κs = search needs
+entry-part-requires : tie.Need-entry-part-requires
+entry-part-requires c κs = search needs
+
+entry-of-requires : tie.Need-entry-of-requires
+entry-of-requires c κs = search needs
 
 routine-row-requires : tie.Need-routine-row-requires
 routine-row-requires c κs = search needs
@@ -19,8 +22,8 @@ cast-result c = search needs
 
 returns : tie.Need-returns
 unfolding rowRule worst worstFrom
-returns c = simp (c .before .before .before .before .worst .ensures, c .before .before .before .before .before .routine-row .ensures, c .before .before .before .before .before .before .entry-at .ensures, and-assoc, or-assoc, Bool·not-not)
+returns c = simp (c .before .before .before .before .worst .ensures, c .before .before .before .before .before .routine-row .ensures, c .before .before .before .before .before .before .entry-of .ensures, c .before .before .before .before .before .before .before .entry-part .ensures .1, and-assoc, or-assoc, Bool·not-not)
 
 pub row-rule-spec : {M : Type 1} → statement M
 row-rule-spec =
-    tie.close (tie.spec entry-at-requires routine-row-requires worst-requires cast-result returns)
+    tie.close (tie.spec entry-part-requires entry-of-requires routine-row-requires worst-requires cast-result returns)

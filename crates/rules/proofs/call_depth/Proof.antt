@@ -4,14 +4,23 @@ use borrow.Author.Needs.{needs}
 use Rattle.rules.proofs.call_depth.Statement.{statement}
 use Rattle.rules.proofs.call_depth.Tie as tie
 
-entry-at-requires : tie.Need-entry-at-requires
-entry-at-requires c κs = search needs
+entry-part-requires : tie.Need-entry-part-requires
+entry-part-requires c κs = search needs
 
-entry-at-requires-2 : tie.Need-entry-at-requires-2
-entry-at-requires-2 c κs = search needs
+entry-of-requires : tie.Need-entry-of-requires
+entry-of-requires c κs = search needs
 
-entry-at-requires-3 : tie.Need-entry-at-requires-3
-entry-at-requires-3 c κs = search needs
+entry-part-requires-2 : tie.Need-entry-part-requires-2
+entry-part-requires-2 c κs = search needs
+
+entry-of-requires-2 : tie.Need-entry-of-requires-2
+entry-of-requires-2 c κs = search needs
+
+entry-part-requires-3 : tie.Need-entry-part-requires-3
+entry-part-requires-3 c κs = search needs
+
+entry-of-requires-3 : tie.Need-entry-of-requires-3
+entry-of-requires-3 c κs = search needs
 
 routine-row-requires : tie.Need-routine-row-requires
 routine-row-requires c κs = search needs
@@ -36,15 +45,18 @@ cast-result c = search needs
 
 returns : tie.Need-returns
 unfolding callDepth
-returns c = simp (c .before .before .before .before .before .before .routine-row2 .ensures, c .before .before .before .before .before .before .before .routine-row .ensures, c .before .before .before .before .before .before .before .before .entry-at3 .ensures, c .before .before .before .before .before .before .before .before .before .entry-at2 .ensures, c .before .before .before .before .before .before .before .before .before .before .entry-at .ensures, and-assoc, or-assoc, Bool·not-not)
+returns c = simp (c .before .before .before .before .before .before .routine-row2 .ensures, c .before .before .before .before .before .before .before .routine-row .ensures, c .before .before .before .before .before .before .before .before .entry-of3 .ensures, c .before .before .before .before .before .before .before .before .before .entry-part3 .ensures .1, c .before .before .before .before .before .before .before .before .before .before .entry-of2 .ensures, c .before .before .before .before .before .before .before .before .before .before .before .entry-part2 .ensures .1, c .before .before .before .before .before .before .before .before .before .before .before .before .entry-of .ensures, c .before .before .before .before .before .before .before .before .before .before .before .before .before .entry-part .ensures .1, and-assoc, or-assoc, Bool·not-not)
 
 pub call-depth-spec : {M : Type 1} → statement M
 call-depth-spec =
     tie.close
     (tie.spec
-    entry-at-requires
-    entry-at-requires-2
-    entry-at-requires-3
+    entry-part-requires
+    entry-of-requires
+    entry-part-requires-2
+    entry-of-requires-2
+    entry-part-requires-3
+    entry-of-requires-3
     routine-row-requires
     routine-row-requires-2
     cast-sum
