@@ -1,7 +1,7 @@
-// Runs the worked examples of the manual's instruction pages (chapter 6), which the file `examples.txt` lists page by page, and compares what
-// the machine leaves with what the page prints. The form of the file is told at its head. Everything that an example does not name has to stay
-// as it was: all 256 registers, program counter, mode, cycle total and refusal are compared. What a page leaves open (RAM, FLAGS, SP) is tried
-// as all zeros and as all ones.
+// Runs the worked examples of the manual's instruction pages (chapter 6), which the file `examples.txt` lists page by page, and 01's of 13 and 14
+// among them, and compares what the machine leaves with what the page prints. The form of the file is told at its head. Everything that an
+// example does not name has to stay as it was: all 256 registers, program counter, mode, cycle total and refusal are compared. What a page
+// leaves open (RAM, FLAGS, SP) is tried as all zeros and as all ones.
 ghost use Prim.Native.Nat.{_<_};
 use base::RomAddr;
 use libc::STDOUT_FILENO;
