@@ -278,7 +278,7 @@ fn load_code(
     ensures next { λ r. ⌜ r ≡ loadCodeOf d from (now (image .entry)) (now (regs .entry)) (now (rec .entry)) pc .next ⌝ }
 {
     let a = code_address(from, regs, rec) as usize;
-    chip::store(regs, d, decode::byte_at(image, a));
+    chip::store(regs, d, base::byte_at(image, a));
     in_rom(image, a, pc)
 }
 
@@ -312,7 +312,7 @@ fn load_code_step(
     ensures next { λ r. ⌜ r ≡ loadCodeStepOf d p up (now (image .entry)) (now (regs .entry)) (now (rec .entry)) pc .next ⌝ }
 {
     let a = word_at(regs, rec, p) as usize;
-    chip::store(regs, d, decode::byte_at(image, a));
+    chip::store(regs, d, base::byte_at(image, a));
     step_pair(regs, rec, p, up);
     in_rom(image, a, pc)
 }
