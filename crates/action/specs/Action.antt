@@ -31,9 +31,9 @@ atWork r x = Indirect (workOf r) x
 abbrev at : RegAddr → Operand
 at a = Indirect a 0
 
--- -128 to 127 from an address, modulo 65536
-abbrev pub displaced : RomAddr → ℕ → RomAddr
-displaced next x = romAddr (pick (ltb x 128) ((next .0 + x) % 65536) ((next .0 + (65280 + x)) % 65536))
+-- a word with an offset of -128 to 127, modulo 65536
+abbrev pub displaced : ℕ → ℕ → ℕ
+displaced w x = pick (ltb x 128) ((w + x) % 65536) ((w + (65280 + x)) % 65536)
 
 -- an odd pair means LDE
 abbrev pub loadCode : ℕ → ℕ → CodeAddress → Action
@@ -93,7 +93,7 @@ actionOf (Instruction.LdcLoadLong r p x) next = loadCode r p (Long (workOf p) x)
 actionOf (Instruction.LdcStoreLong r p x) next = Action.External
 actionOf (Instruction.LdcLoadDirect r lde a) next = loadCodeDirect r lde a
 actionOf (Instruction.LdcStoreDirect r lde a) next = Action.External
-actionOf (Instruction.JumpRel cc x) next = Action.Jump cc (displaced next x)
+actionOf (Instruction.JumpRel cc x) next = Action.Jump cc (romAddr (displaced (next .0) x))
 actionOf (Instruction.Jump cc to) next = Action.Jump cc to
 actionOf (Instruction.JumpAt p) next = Action.JumpPair p
 actionOf (Instruction.Call to) next = Action.Call to

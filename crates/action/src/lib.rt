@@ -1,6 +1,14 @@
 // What an instruction does, by the shape of its operands: the machine and the checker work on these kinds and not on 198 codes.
 ghost use mathlib.Core.Path.{_≡_};
 ghost use Rattle.action.specs.Action.{workOf, displaced, loadCode, loadCodeStep, loadCodeDirect, impliedAction, actionOf};
+use crate::Action::Binary;
+use crate::Action::Load;
+use crate::Action::Modify;
+use crate::Action::Pop;
+use crate::Action::Push;
+use crate::Operand::Immediate;
+use crate::Operand::Indirect;
+use crate::Operand::Register;
 use base::RegAddr;
 use base::RomAddr;
 use isa::Alu;
@@ -65,14 +73,14 @@ fn work(r: u8) -> RegAddr
     RegAddr(192 + r % 16)
 }
 
-// The address a signed displacement away from the address behind JR.
-fn relative(next: RomAddr, x: u8) -> RomAddr
-    ensures { λ r. ⌜ r ≡ displaced next x ⌝ }
+// The word with an offset of -128 to 127.
+pub fn displaced(w: u16, x: u8) -> u16
+    ensures { λ r. ⌜ r ≡ displaced w x ⌝ }
 {
     if x < 128 {
-        return RomAddr(std::num::wrapping_add_u16(next.0, x as u16));
+        return std::num::wrapping_add_u16(w, x as u16);
     }
-    RomAddr(std::num::wrapping_add_u16(next.0, 65280 + x as u16))
+    std::num::wrapping_add_u16(w, 65280 + x as u16)
 }
 
 // LDC; LDE where the pair is odd.
@@ -130,74 +138,30 @@ pub fn action_of(i: Instruction, next: RomAddr) -> Action
     ensures { λ a. ⌜ a ≡ actionOf i next ⌝ }
 {
     match i {
-        Instruction::UnaryReg(op, d) => Action::Modify(op, Operand::Register(d)),
-        Instruction::UnaryAt(op, d) => Action::Modify(op, Operand::Indirect(d, 0)),
-        Instruction::Pop(d) => Action::Pop(Operand::Register(d)),
-        Instruction::PopAt(d) => Action::Pop(Operand::Indirect(d, 0)),
-        Instruction::Push(s) => Action::Push(Operand::Register(s)),
-        Instruction::PushAt(s) => Action::Push(Operand::Indirect(s, 0)),
-        Instruction::IncWork(r) => Action::Modify(Unary::Inc, Operand::Register(work(r))),
-        Instruction::AluWork(op, d, s) => Action::Binary(
-            op,
-            Operand::Register(work(d)),
-            Operand::Register(work(s)),
-        ),
-        Instruction::AluWorkAt(op, d, s) => Action::Binary(
-            op,
-            Operand::Register(work(d)),
-            Operand::Indirect(work(s), 0),
-        ),
-        Instruction::AluReg(op, d, s) => Action::Binary(
-            op,
-            Operand::Register(d),
-            Operand::Register(s),
-        ),
-        Instruction::AluRegAt(op, d, s) => Action::Binary(
-            op,
-            Operand::Register(d),
-            Operand::Indirect(s, 0),
-        ),
-        Instruction::AluImm(op, d, n) => Action::Binary(
-            op,
-            Operand::Register(d),
-            Operand::Immediate(n),
-        ),
-        Instruction::LoadReg(d, s) => Action::Load(Operand::Register(d), Operand::Register(s)),
-        Instruction::LoadRegAt(d, s) => Action::Load(Operand::Register(d), Operand::Indirect(s, 0)),
-        Instruction::LoadAtReg(d, s) => Action::Load(Operand::Indirect(d, 0), Operand::Register(s)),
-        Instruction::LoadImm(d, n) => Action::Load(Operand::Register(d), Operand::Immediate(n)),
-        Instruction::LoadAtImm(d, n) => Action::Load(
-            Operand::Indirect(d, 0),
-            Operand::Immediate(n),
-        ),
-        Instruction::LoadWorkAt(d, s) => Action::Load(
-            Operand::Register(work(d)),
-            Operand::Indirect(work(s), 0),
-        ),
-        Instruction::LoadAtWork(d, s) => Action::Load(
-            Operand::Indirect(work(d), 0),
-            Operand::Register(work(s)),
-        ),
-        Instruction::LoadIndexed(d, b, x) => Action::Load(
-            Operand::Register(work(d)),
-            Operand::Indirect(work(b), x),
-        ),
-        Instruction::StoreIndexed(s, b, x) => Action::Load(
-            Operand::Indirect(work(b), x),
-            Operand::Register(work(s)),
-        ),
-        Instruction::LoadWorkReg(d, s) => Action::Load(
-            Operand::Register(work(d)),
-            Operand::Register(s),
-        ),
-        Instruction::LoadRegWork(d, s) => Action::Load(
-            Operand::Register(d),
-            Operand::Register(work(s)),
-        ),
-        Instruction::LoadWorkImm(d, n) => Action::Load(
-            Operand::Register(work(d)),
-            Operand::Immediate(n),
-        ),
+        Instruction::UnaryReg(op, d) => Modify(op, Register(d)),
+        Instruction::UnaryAt(op, d) => Modify(op, Indirect(d, 0)),
+        Instruction::Pop(d) => Pop(Register(d)),
+        Instruction::PopAt(d) => Pop(Indirect(d, 0)),
+        Instruction::Push(s) => Push(Register(s)),
+        Instruction::PushAt(s) => Push(Indirect(s, 0)),
+        Instruction::IncWork(r) => Modify(Unary::Inc, Register(work(r))),
+        Instruction::AluWork(op, d, s) => Binary(op, Register(work(d)), Register(work(s))),
+        Instruction::AluWorkAt(op, d, s) => Binary(op, Register(work(d)), Indirect(work(s), 0)),
+        Instruction::AluReg(op, d, s) => Binary(op, Register(d), Register(s)),
+        Instruction::AluRegAt(op, d, s) => Binary(op, Register(d), Indirect(s, 0)),
+        Instruction::AluImm(op, d, n) => Binary(op, Register(d), Immediate(n)),
+        Instruction::LoadReg(d, s) => Load(Register(d), Register(s)),
+        Instruction::LoadRegAt(d, s) => Load(Register(d), Indirect(s, 0)),
+        Instruction::LoadAtReg(d, s) => Load(Indirect(d, 0), Register(s)),
+        Instruction::LoadImm(d, n) => Load(Register(d), Immediate(n)),
+        Instruction::LoadAtImm(d, n) => Load(Indirect(d, 0), Immediate(n)),
+        Instruction::LoadWorkAt(d, s) => Load(Register(work(d)), Indirect(work(s), 0)),
+        Instruction::LoadAtWork(d, s) => Load(Indirect(work(d), 0), Register(work(s))),
+        Instruction::LoadIndexed(d, b, x) => Load(Register(work(d)), Indirect(work(b), x)),
+        Instruction::StoreIndexed(s, b, x) => Load(Indirect(work(b), x), Register(work(s))),
+        Instruction::LoadWorkReg(d, s) => Load(Register(work(d)), Register(s)),
+        Instruction::LoadRegWork(d, s) => Load(Register(d), Register(work(s))),
+        Instruction::LoadWorkImm(d, n) => Load(Register(work(d)), Immediate(n)),
         Instruction::LdcLoad(r, p) => load_code(r, p, CodeAddress::Short(work(p), 0)),
         Instruction::LdcStore(r, p) => Action::External,
         Instruction::LdcDec(r, p) => load_code_step(r, p, false),
@@ -208,7 +172,7 @@ pub fn action_of(i: Instruction, next: RomAddr) -> Action
         Instruction::LdcStoreLong(r, p, x) => Action::External,
         Instruction::LdcLoadDirect(r, e, at) => load_code_direct(r, e, at),
         Instruction::LdcStoreDirect(r, e, at) => Action::External,
-        Instruction::JumpRel(cc, x) => Action::Jump(cc, relative(next, x)),
+        Instruction::JumpRel(cc, x) => Action::Jump(cc, RomAddr(displaced(next.0, x))),
         Instruction::Jump(cc, to) => Action::Jump(cc, to),
         Instruction::JumpAt(p) => Action::JumpPair(p),
         Instruction::Call(to) => Action::Call(to),

@@ -151,7 +151,7 @@ pub record Agrees (p : Formula) : Type 0 where
   pub sound : T (decide p) → Holds p
   pub full : Holds p → T (decide p)
 
--- agrees ways, for every formula
+-- agrees both ways, for every formula
 pub agrees : (p : Formula) → Agrees p
 agrees always = record { sound = λ t. tt; full = λ m. tt }
 agrees never = record { sound = λ t. t; full = λ m. m }

@@ -1,5 +1,5 @@
 -- The effect summary of an action: what it may store, read and change, and where control goes. The checker's rules read nothing else of an
--- instruction but its cost; `safety` proves each action against its summary.
+-- instruction but its cost and the address behind it; `safety` proves each action against its summary.
 -- Assumes nothing.
 use Prim.Native.Nat.{ℕ, _+_, _-_}
 use mathlib.Core.Bool.{Bool, true, false}

@@ -1,7 +1,6 @@
 // The decoder: the low nibble's ranges, then the rows.
 ghost use mathlib.Core.Path.{_≡_};
 ghost use Prim.Native.Nat.{_<_, _≤_};
-ghost use lib.ListN.{getD};
 ghost use Rattle.isa.specs.Map.{aluRow, unaryRow, unaryColumn, aluColumn, aluCell, otherCell, column7, rowColumn, columnF, cellOf};
 ghost use Rattle.isa.specs.Map.Cell.{callAt, jumpAt, ldcLoadLong, ldcStoreLong};
 ghost use Prim.Native.Nat.{_/_};
@@ -9,6 +8,7 @@ ghost use Rattle.isa.specs.Answer.{decoded};
 ghost use Rattle.decode.specs.Decode.{formOf, decodeAt};
 use base::RegAddr;
 use base::RomAddr;
+use base::byte_at;
 use isa::Alu;
 use isa::AluRow;
 use isa::Decoded;
@@ -275,13 +275,6 @@ pub fn form(first: u8, b1: u8, b2: u8, b3: u8) -> Decoded
         8..=14 => row_column(low, row, b1, b2, b3),
         _ => column_f(row, b1, b2, b3),
     }
-}
-
-// The byte at a position, 0 past the end.
-pub fn byte_at(s: &[u8], at: usize) -> u8
-    ensures { λ r. ⌜ r ≡ getD (now (s .entry)) at 0 ⌝ }
-{
-    if at < s.len() { s[at] } else { 0 }
 }
 
 // The instruction at a position of a slice.

@@ -2,7 +2,6 @@
 // The functions are for the crate `machine`, which makes steps of them.
 ghost use mathlib.Core.Path.{_≡_};
 ghost use Prim.Native.Nat.{_+_, _*_, _%_};
-ghost use lib.Dec.{ltb};
 ghost use mathlib.Core.Bool.{true};
 ghost use Rattle.base.specs.Addresses.{regAddr};
 ghost use Rattle.base.specs.Choice.{pick};
@@ -255,23 +254,13 @@ fn pop_operand(d: Operand, regs: &mut [u8; 256], rec: &[u8; 8], pc: RomAddr) -> 
     goes_on(p.ok & chip::mapped(top), pc)
 }
 
-// The word with an offset of -128 to 127.
-fn displaced(base: u16, x: u8) -> u16
-    ensures { λ r. ⌜ r ≡ pick (ltb x 128) ((base + x) % 65536) ((base + (65280 + x)) % 65536) ⌝ }
-{
-    if x < 128 {
-        return std::num::wrapping_add_u16(base, x as u16);
-    }
-    std::num::wrapping_add_u16(base, 65280 + x as u16)
-}
-
 // The address that LDC reads.
 fn code_address(from: CodeAddress, regs: &[u8; 256], rec: &[u8; 8]) -> u16
     ensures { λ r. ⌜ r ≡ codeAddress from (now (regs .entry)) (now (rec .entry)) ⌝ }
 {
     match from {
         CodeAddress::Direct(a) => a.0,
-        CodeAddress::Short(p, x) => displaced(word_at(regs, rec, p), x),
+        CodeAddress::Short(p, x) => action::displaced(word_at(regs, rec, p), x),
         CodeAddress::Long(p, x) => std::num::wrapping_add_u16(word_at(regs, rec, p), x),
     }
 }
@@ -289,7 +278,7 @@ fn load_code(
     ensures next { λ r. ⌜ r ≡ loadCodeOf d from (now (image .entry)) (now (regs .entry)) (now (rec .entry)) pc .next ⌝ }
 {
     let a = code_address(from, regs, rec) as usize;
-    chip::store(regs, d, decode::byte_at(image, a));
+    chip::store(regs, d, base::byte_at(image, a));
     in_rom(image, a, pc)
 }
 
@@ -323,7 +312,7 @@ fn load_code_step(
     ensures next { λ r. ⌜ r ≡ loadCodeStepOf d p up (now (image .entry)) (now (regs .entry)) (now (rec .entry)) pc .next ⌝ }
 {
     let a = word_at(regs, rec, p) as usize;
-    chip::store(regs, d, decode::byte_at(image, a));
+    chip::store(regs, d, base::byte_at(image, a));
     step_pair(regs, rec, p, up);
     in_rom(image, a, pc)
 }

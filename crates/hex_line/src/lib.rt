@@ -2,9 +2,10 @@
 ghost use mathlib.Core.Path.{_≡_};
 ghost use Prim.Native.Nat.{_+_, _*_, _%_, _<_, _≤_};
 ghost use mathlib.Core.List.{_++_};
-ghost use lib.ListN.{length, getD, drop};
+ghost use lib.ListN.{length, drop};
 ghost use Rattle.hex_line.specs.Record.{digitOf, joined, pairAt, added, sumOf, dataOf, countOf, addressOf, parseBody, parsedOutcome, Small, bodyLength, bodyOf};
 ghost use Rattle.hex_line.specs.Line.{bufferLength, begun, faultNumber, lineOutcome, readFields, readLine, stored, lineBuffer};
+use base::byte_at;
 
 const IMAGE_LENGTH: usize = 4096;
 
@@ -116,12 +117,6 @@ fn join(high: u16, low: u16) -> u16
         return 256;
     }
     256
-}
-
-fn byte_at(s: &[u8], at: usize) -> u8
-    ensures { λ r. ⌜ r ≡ getD (now (s .entry)) at 0 ⌝ }
-{
-    if at < s.len() { s[at] } else { 0 }
 }
 
 // The value of the two digits at a position, 256 where one is none.

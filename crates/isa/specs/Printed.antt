@@ -1,4 +1,5 @@
--- Table 6-5 as it is printed, row by row, and that the map by column and row says the same: one equation over all 256 cells, by computing.
+-- Table 6-5, row by row as printed, but for row 1: columns 2 to 6 are ADC, as 01 says, where the manual prints ADD. And that the map by column
+-- and row says the same: one equation over all 256 cells, by computing.
 -- Assumes nothing.
 use Prim.Native.Nat.{ℕ, _<_}
 use mathlib.Core.Path.{_≡_, refl}

@@ -132,7 +132,7 @@ fn enter(image: &[u8], s: Core, regs: &mut [u8; 256]) -> Ended
     let f = kept_flags(regs[0xD5]);
     let flags = execute::push(regs, f);
     chip::set_interrupts(regs, false);
-    let vector = RomAddr(execute::word(decode::byte_at(image, 0), decode::byte_at(image, 1)));
+    let vector = RomAddr(execute::word(base::byte_at(image, 0), base::byte_at(image, 1)));
     finish(s, execute::goes_on(address & flags, vector), ENTRY_COST)
 }
 
@@ -145,7 +145,7 @@ fn after_decode(d: Decoded, image: &[u8], s: Core, regs: &mut [u8; 256], rec: &[
             let pc = s.pc;
             let behind = RomAddr(std::num::wrapping_add_u16(pc.0, n as u16));
             let next = execute::execute(action::action_of(i, behind), image, regs, rec, behind);
-            let first = decode::byte_at(image, pc.0 as usize);
+            let first = base::byte_at(image, pc.0 as usize);
             finish(s, next, opcode_words::cycles(first))
         }
         Decoded::CutOff => refuse(s, 10),

@@ -1,9 +1,10 @@
-// Runs the worked examples of the manual's instruction pages (chapter 6), which the file `examples.txt` lists page by page, and compares what
-// the machine leaves with what the page prints. The form of the file is told at its head. Everything that an example does not name has to stay
-// as it was: all 256 registers, program counter, mode, cycle total and refusal are compared. What a page leaves open (RAM, FLAGS, SP) is tried
-// as all zeros and as all ones.
+// Runs the worked examples of the manual's instruction pages (chapter 6), which the file `examples.txt` lists page by page, and 01's of 13 and 14
+// among them, and compares what the machine leaves with what the page prints. The form of the file is told at its head. Everything that an
+// example does not name has to stay as it was: all 256 registers, program counter, mode, cycle total and refusal are compared. What a page
+// leaves open (RAM, FLAGS, SP) is tried as all zeros and as all ones.
 ghost use Prim.Native.Nat.{_<_};
 use base::RomAddr;
+use base::byte_at;
 use libc::STDOUT_FILENO;
 use semantics::Mode;
 use semantics::Ran;
@@ -61,14 +62,6 @@ struct Walk {
     differ: u64,
 }
 
-// A byte of the text; 0 past its end.
-fn byte(text: &[u8], at: usize) -> u8 {
-    if at < text.len() {
-        return text[at];
-    }
-    0
-}
-
 fn plus(at: usize, n: usize) -> usize {
     std::num::wrapping_add_usize(at, n)
 }
@@ -77,7 +70,7 @@ fn plus(at: usize, n: usize) -> usize {
 fn find(text: &[u8], at: usize, end: usize, b: u8) -> usize {
     let mut i = at;
     while i < end {
-        if byte(text, i) == b {
+        if byte_at(text, i) == b {
             return i;
         }
         i += 1;
@@ -97,11 +90,11 @@ fn digit(b: u8) -> u8 {
 fn digit_at(text: &[u8], at: usize) -> u8
     ensures { λ r. ⌜ r < 16 ⌝ }
 {
-    digit(byte(text, at)) % 16
+    digit(byte_at(text, at)) % 16
 }
 
 fn is_digit(text: &[u8], at: usize) -> bool {
-    digit(byte(text, at)) < 16
+    digit(byte_at(text, at)) < 16
 }
 
 fn is_bit(b: u8) -> bool {
@@ -149,8 +142,8 @@ fn flag_key(b: u8) -> Key {
 
 // A working register, PC, SP, or a register's address.
 fn short_key(text: &[u8], at: usize) -> Key {
-    let first = byte(text, at);
-    let second = byte(text, plus(at, 1));
+    let first = byte_at(text, at);
+    let second = byte_at(text, plus(at, 1));
     if (first == b'R') & is_digit(text, plus(at, 1)) {
         return Key::Register(192 + digit_at(text, plus(at, 1)));
     }
@@ -180,7 +173,7 @@ fn word_key(b: u8) -> Key {
 // The left side of a `=`.
 fn key_of(text: &[u8], at: usize, end: usize) -> Key {
     if plus(at, 1) == end {
-        return flag_key(byte(text, at));
+        return flag_key(byte_at(text, at));
     }
     if plus(at, 2) == end {
         return short_key(text, at);
@@ -188,7 +181,7 @@ fn key_of(text: &[u8], at: usize, end: usize) -> Key {
     if is_quad(text, at, end) {
         return Key::Rom(quad(text, at));
     }
-    word_key(byte(text, at))
+    word_key(byte_at(text, at))
 }
 
 // A ROM byte; past the end it is dropped.
@@ -242,7 +235,7 @@ fn value_fits(key: Key, text: &[u8], at: usize, end: usize) -> bool {
     match key {
         Key::Register(_) => is_pair(text, at, end),
         Key::Rom(_) => is_pair(text, at, end),
-        Key::Flag(_) => is_bit(byte(text, at)) & (plus(at, 1) == end),
+        Key::Flag(_) => is_bit(byte_at(text, at)) & (plus(at, 1) == end),
         Key::Counter => is_quad(text, at, end),
         Key::Unknown => false,
         _ => true,
@@ -263,9 +256,9 @@ fn set(
     match key {
         Key::Register(a) => put_register(regs, a as usize, pair(text, at)),
         Key::Rom(a) => put_rom(image, a as usize, pair(text, at)),
-        Key::Flag(m) => put_flag(regs, m, byte(text, at) == b'1'),
+        Key::Flag(m) => put_flag(regs, m, byte_at(text, at) == b'1'),
         Key::Counter => r.pc = quad(text, at),
-        Key::Mode => r.mode = mode_number(byte(text, at)),
+        Key::Mode => r.mode = mode_number(byte_at(text, at)),
         Key::Cycles => r.cycles = decimal(text, at, end) as u32,
         Key::Refused => r.refused = decimal(text, at, end),
         Key::Steps => r.steps = decimal(text, at, end),
@@ -276,7 +269,7 @@ fn set(
 
 // A word without `=`: a byte of code, a bar, or nothing between two spaces.
 fn code(text: &[u8], at: usize, end: usize, image: &mut [u8; 4096], rest: Rest) -> Rest {
-    if (at == end) | (byte(text, at) == b'|') {
+    if (at == end) | (byte_at(text, at) == b'|') {
         return rest;
     }
     if is_pair(text, at, end) {
@@ -576,7 +569,7 @@ fn compare(text: &[u8], at: usize, end: usize, walk: Walk) -> Walk {
 // The line that begins at the position: a comment, what a page gives, or an example.
 fn line(text: &[u8], end: usize, walk: Walk) -> Walk {
     let at = walk.at;
-    let first = byte(text, at);
+    let first = byte_at(text, at);
     if (at == end) | (first == b'#') {
         return walk;
     }

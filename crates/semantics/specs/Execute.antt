@@ -23,6 +23,7 @@ use Rattle.action.specs.declared.CodeAddress.the-variants.{Direct, Short, Long}
 use Rattle.action.specs.declared.CarryChange.{CarryChange}
 use Rattle.action.specs.declared.CarryChange.the-variants.{Reset, Set, Complement}
 use Rattle.action.specs.declared.Action.{Action}
+use Rattle.action.specs.Action.{displaced}
 use Rattle.semantics.specs.declared.Mode.{Mode}
 use Rattle.semantics.specs.declared.Mode.the-variants.{Running, Idle, Stopped}
 use Rattle.semantics.specs.declared.Next.{Next}
@@ -88,7 +89,7 @@ popOperand d regs rec pc =
 -- the address that LDC reads: the pair with its offset, -128 to 127 or 16 bits, modulo 65536; or direct
 unfoldable pub codeAddress : CodeAddress → List ℕ → List ℕ → ℕ
 codeAddress (Direct a) regs rec = a .0
-codeAddress (Short p x) regs rec = pick (ltb x 128) ((wordAt regs rec (p .0) + x) % 65536) ((wordAt regs rec (p .0) + (65280 + x)) % 65536)
+codeAddress (Short p x) regs rec = displaced (wordAt regs rec (p .0)) x
 codeAddress (Long p x) regs rec = (wordAt regs rec (p .0) + x) % 65536
 
 -- refused by 14 outside ROM

@@ -1,4 +1,4 @@
--- Operands, FLAGS and the stack (01, "One step"; reading of operands, stack traffic: chapter 6, section on addressing modes).
+-- Operands, FLAGS and the stack (01, "One step"; the manual's chapter 3, addressing modes, and the system stack of chapter 2).
 -- Assumes nothing.
 use Prim.Native.Nat.{ℕ, _+_, _*_, _/_, _%_}
 use mathlib.Core.Bool.{Bool, true, false, _&&_}

@@ -183,8 +183,8 @@ enum-known-i-34 c = search needs
 enum-known-i-35 : tie.Need-enum-known-i-35
 enum-known-i-35 c = search needs
 
-relative-requires : tie.Need-relative-requires
-relative-requires c κs = search needs
+displaced-requires : tie.Need-displaced-requires
+displaced-requires c κs = search needs
 
 enum-known-i-36 : tie.Need-enum-known-i-36
 enum-known-i-36 c = search needs
@@ -342,7 +342,7 @@ returns-34 c = simp (c .before .i34 .given .1)
 
 returns-35 : tie.Need-returns-35
 unfolding actionOf
-returns-35 c = simp (c .relative .ensures, c .before .before .i35 .given .1)
+returns-35 c = simp (c .displaced .ensures, c .before .before .i35 .given .1)
 
 returns-36 : tie.Need-returns-36
 unfolding actionOf
@@ -428,7 +428,7 @@ action-of-spec =
     load-code-direct-requires
     enum-known-i-34
     enum-known-i-35
-    relative-requires
+    displaced-requires
     enum-known-i-36
     enum-known-i-37
     enum-known-i-38

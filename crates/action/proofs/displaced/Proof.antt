@@ -1,13 +1,13 @@
-use borrow.Author.Tests.{lt-ltb, le-ltb, le-leb, lt-leb}
+use borrow.Author.Tests.{lt-ltb, le-ltb}
 use borrow.Author.Needs.{needs}
-use Rattle.execute.proofs.displaced.Statement.{statement}
-use Rattle.execute.proofs.displaced.Tie as tie
+use Rattle.action.proofs.displaced.Statement.{statement}
+use Rattle.action.proofs.displaced.Tie as tie
 
 wrapping-add-u16-requires : tie.Need-wrapping-add-u16-requires
 wrapping-add-u16-requires c κs = search needs
 
 returns : tie.Need-returns
-returns c = simp (c .wrapping-add-u16 .ensures, lt-ltb _ _ (c .before .if1 .taken))
+returns c = rw (lt-ltb _ _ (c .before .if1 .taken), c .wrapping-add-u16 .ensures)
 
 add-wrapping-add-u16 : tie.Need-add-wrapping-add-u16
 add-wrapping-add-u16 c = search needs
@@ -16,7 +16,7 @@ wrapping-add-u16-requires-2 : tie.Need-wrapping-add-u16-requires-2
 wrapping-add-u16-requires-2 c κs = search needs
 
 returns-2 : tie.Need-returns-2
-returns-2 c = simp (c .wrapping-add-u162 .ensures, le-ltb _ _ (c .before .if1 .left))
+returns-2 c = rw (le-ltb _ _ (c .before .if1 .left), c .wrapping-add-u162 .ensures)
 
 pub displaced-spec : {M : Type 1} → statement M
 displaced-spec =
