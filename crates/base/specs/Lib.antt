@@ -1,6 +1,7 @@
 pub mod Addresses
 pub mod Choice
 pub mod Formula
+pub mod Lengths
 pub mod Lists
 pub mod Outcome
 pub mod Table

@@ -5,6 +5,7 @@ use mathlib.Core.List.{List, []}
 use lib.ListN.{getD, take, drop}
 use lib.Dec.{ltb}
 use Rattle.base.specs.Choice.{pick}
+use Rattle.base.specs.Lengths.{romLength}
 
 -- what a certificate says
 pub record Certificate : Type 0 where
@@ -70,12 +71,9 @@ certificateFrom entry cell row f t = record {
 unfoldable pub part : List ℕ → ℕ → ℕ → ℕ → ℕ → List ℕ
 part b i w m k = pick (ltb k m) (take w (drop (w * k) (drop i b))) []
 
-abbrev pub certificateLength : ℕ
-certificateLength = 58498
-
 -- 14 bytes at 14 × address; E000H: 3 bytes a register; E300H: 6 bytes a routine; E480H floor, E481H top
 abbrev pub entryPart : List ℕ → ℕ → List ℕ
-entryPart b = part b 0 14 4096
+entryPart b = part b 0 14 romLength
 
 abbrev pub cellPart : List ℕ → ℕ → List ℕ
 cellPart b = part b 0xE000 3 256

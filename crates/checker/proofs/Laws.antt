@@ -9,10 +9,11 @@ use lib.ListN.{length}
 use borrow.Author.Tests.{eq-eqb, ne-eqb}
 use Rattle.base.specs.Addresses.{romAddr}
 use Rattle.base.specs.Formula.{decide}
+use Rattle.base.specs.Lengths.{romLength, certificateLength}
 use Rattle.certificate.specs.declared.Summary.{Summary}
 use Rattle.certificate.specs.declared.Verdict.the-variants.{Refused}
-use Rattle.certificate.specs.Layout.{Certificate, certificateOf, certificateLength}
-use Rattle.safety.specs.Rules.{romEnd, rule20, rule21, rule22, rule23, rule24, rule25, rule26, rule27}
+use Rattle.certificate.specs.Layout.{Certificate, certificateOf}
+use Rattle.safety.specs.Rules.{rule20, rule21, rule22, rule23, rule24, rule25, rule26, rule27}
 use Rattle.safety.specs.Verdicts.{rulesOn, firstBroken, numberAt, scan, verdictOn, verdictOf}
 use Rattle.checker.specs.declared.Holding.{Holding}
 use Rattle.checker.specs.Located.{tested}
@@ -30,26 +31,26 @@ module _ (C : Certificate) (image : List ℕ) (a : ℕ) (h : a < 4096) where
   scan-stop z = ap (λ (n : ℕ). scan C image n a) (turn a h) ∙ rw (scan, ne-eqb (numberAt C image a) 0 z)
 
 module _ (image cert : List ℕ) where
-  pub image-length : (length image ≡ romEnd → ⊥) → Refused 7 (romAddr 0) ≡ verdictOf image cert
+  pub image-length : (length image ≡ romLength → ⊥) → Refused 7 (romAddr 0) ≡ verdictOf image cert
   unfolding verdictOf
-  image-length n = rw (verdictOf, ne-eqb (length image) romEnd n)
+  image-length n = rw (verdictOf, ne-eqb (length image) romLength n)
 
-  pub certificate-length : length image ≡ romEnd → (length cert ≡ certificateLength → ⊥)
+  pub certificate-length : length image ≡ romLength → (length cert ≡ certificateLength → ⊥)
       → Refused 7 (romAddr 0) ≡ verdictOf image cert
   unfolding verdictOf
-  certificate-length e n = rw (verdictOf, eq-eqb (length image) romEnd e, ne-eqb (length cert) certificateLength n)
+  certificate-length e n = rw (verdictOf, eq-eqb (length image) romLength e, ne-eqb (length cert) certificateLength n)
 
-  module _ (e : length image ≡ romEnd) (k : length cert ≡ certificateLength) where
+  module _ (e : length image ≡ romLength) (k : length cert ≡ certificateLength) where
     pub layout-broken : decide (rule20 (certificateOf cert) image) ≡ false → Refused 20 (romAddr 0) ≡ verdictOf image cert
     unfolding verdictOf verdictOn
     layout-broken d =
-        rw (verdictOf, eq-eqb (length image) romEnd e, eq-eqb (length cert) certificateLength k, verdictOn, d)
+        rw (verdictOf, eq-eqb (length image) romLength e, eq-eqb (length cert) certificateLength k, verdictOn, d)
 
     pub layout-holds : decide (rule20 (certificateOf cert) image) ≡ true
-        → scan (certificateOf cert) image romEnd 0 ≡ verdictOf image cert
+        → scan (certificateOf cert) image romLength 0 ≡ verdictOf image cert
     unfolding verdictOf verdictOn
     layout-holds d =
-        rw (verdictOf, eq-eqb (length image) romEnd e, eq-eqb (length cert) certificateLength k, verdictOn, d)
+        rw (verdictOf, eq-eqb (length image) romLength e, eq-eqb (length cert) certificateLength k, verdictOn, d)
 
 -- the rules' values in place of the rules
 abbrev pub holdingOf : Certificate → ℕ → Summary → ℕ → ℕ → Holding

@@ -12,6 +12,7 @@ use Rattle.base.specs.declared.RomAddr.{RomAddr}
 use Rattle.base.specs.Choice.{pick}
 use Rattle.base.specs.Outcome.{Outcome}
 use Rattle.base.specs.Outcome.Outcome.{value, refused}
+use Rattle.base.specs.Lengths.{romLength}
 use Rattle.isa.specs.declared.Instruction.{Instruction}
 use Rattle.isa.specs.Map.{cyclesOf}
 use Rattle.decode.specs.Decode.{decodeAt}
@@ -21,7 +22,7 @@ use Rattle.semantics.specs.declared.State.{State}
 use Rattle.semantics.specs.declared.Stepped.{Stepped}
 use Rattle.semantics.specs.declared.Ran.{Ran}
 use Rattle.semantics.specs.Execute.{Executed}
-use Rattle.semantics.specs.Step.{romLength, recordLength, entryDue, refuse, finishOf, entryCost, afterDecode, instructionStep, modeStep, stepAfterRequests, requested, stepWith, stepOf}
+use Rattle.semantics.specs.Step.{recordLength, entryDue, refuse, finishOf, entryCost, afterDecode, instructionStep, modeStep, stepAfterRequests, requested, stepWith, stepOf}
 use Rattle.semantics.specs.Run.{ran, recordAt, runFrom, runOf}
 
 -- the cycles of what was decoded, by its first byte; what does not decode costs nothing

@@ -8,10 +8,11 @@ use Rattle.base.specs.Choice.{pick}
 use Rattle.base.specs.Outcome.{Outcome, onOutcome}
 use Rattle.base.specs.Outcome.Outcome.{value, refused}
 use Rattle.base.specs.Formula.{decide}
+use Rattle.base.specs.Lengths.{certificateLength}
 use Rattle.hex_write.specs.ImageText.{hexDigit}
 use Rattle.certificate.specs.declared.Verdict.{Verdict}
 use Rattle.certificate.specs.declared.Verdict.the-variants.{Accepted, Refused}
-use Rattle.certificate.specs.Layout.{Certificate, certificateLength, certificateOf}
+use Rattle.certificate.specs.Layout.{Certificate, certificateOf}
 use Rattle.safety.specs.Rules.{used}
 
 -- a number in decimal with no zeros in front. It has at most k digits

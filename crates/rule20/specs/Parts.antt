@@ -4,8 +4,9 @@ use Prim.Native.Nat.{ℕ, _+_, _*_}
 use mathlib.Core.List.{List}
 use lib.ListN.{getD}
 use Rattle.base.specs.Formula.{Formula, Holds, le, lt, eq, neg, _&_, _⇒_, forallBelow}
+use Rattle.base.specs.Lengths.{romLength}
 use Rattle.certificate.specs.Layout.{Certificate}
-use Rattle.safety.specs.Rules.{romEnd, unloaded, present, used, cellRule, claimRule, compareRule, entryRule, startRule, bareRule, addressRule, rule20}
+use Rattle.safety.specs.Rules.{unloaded, present, used, cellRule, claimRule, compareRule, entryRule, startRule, bareRule, addressRule, rule20}
 
 module _ (C : Certificate) (a : ℕ) where
   unfoldable pub routineRule : Formula
@@ -44,7 +45,7 @@ module _ (C : Certificate) where
   startsRule = forallBelow 64 (startRule C)
 
   unfoldable pub addressesRule : Formula
-  addressesRule = forallBelow romEnd (addressRule C)
+  addressesRule = forallBelow romLength (addressRule C)
 
   unfoldable pub mainRule : Formula
   mainRule = neg (used C 0) & (eq (C .start 1) 0x100 & eq (C .side 1) 1 & eq (C .bound 1) 0) & bareRule C (C .start 1)

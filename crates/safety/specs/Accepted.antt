@@ -10,10 +10,11 @@ use lib.Dec.{T, eqb, eqb→eq}
 use Rattle.base.specs.declared.RomAddr.{RomAddr}
 use Rattle.base.specs.Addresses.{romAddr}
 use Rattle.base.specs.Formula.{Formula, Holds, decide, sound, of-true, same?}
+use Rattle.base.specs.Lengths.{romLength}
 use Rattle.certificate.specs.declared.Verdict.{Verdict}
 use Rattle.certificate.specs.declared.Verdict.the-variants.{Accepted, Refused}
 use Rattle.certificate.specs.Layout.{Certificate}
-use Rattle.safety.specs.Rules.{romEnd, rule20, rule21, rule22, rule23, rule24, rule25, rule26, rule27}
+use Rattle.safety.specs.Rules.{rule20, rule21, rule22, rule23, rule24, rule25, rule26, rule27}
 use Rattle.safety.specs.Verdicts.{Rule, summaryAt, nextAt, costAt, rulesOn, rulesAt, firstBroken, numberAt, scan, verdictOn}
 
 isAccepted : Verdict → ℕ
@@ -97,10 +98,10 @@ verdict-first false f v e h = absurd (never-refused 20 (romAddr 0) h)
 -- an accepted certificate breaks no rule
 pub record Accepts (C : Certificate) (image : List ℕ) : Type 0 where
   pub r20 : Holds (rule20 C image)
-  pub rules : (a : ℕ) → a < romEnd → C .routine a ≢ 0 → RulesHold C image a
+  pub rules : (a : ℕ) → a < romLength → C .routine a ≢ 0 → RulesHold C image a
 
 pub accepts : (C : Certificate) (image : List ℕ) → verdictOn C image ≡ Accepted → Accepts C image
 unfolding verdictOn
 accepts C image h =
-    let z = verdict-first (decide (rule20 C image)) (rule20 C image) (scan C image romEnd 0) refl h in
-    record { r20 = z .0; rules = λ a l r. scan-all C image romEnd 0 (z .1) a (omega arith) (omega arith) r }
+    let z = verdict-first (decide (rule20 C image)) (rule20 C image) (scan C image romLength 0) refl h in
+    record { r20 = z .0; rules = λ a l r. scan-all C image romLength 0 (z .1) a (omega arith) (omega arith) r }

@@ -9,6 +9,7 @@ use Rattle.base.specs.declared.RegAddr.{RegAddr}
 use Rattle.base.specs.declared.RomAddr.{RomAddr}
 use Rattle.base.specs.Choice.{pick, choose}
 use Rattle.base.specs.Formula.{Formula, always, never, le, lt, eq, test, neg, _&_, _‖_, _⇒_, forallBelow}
+use Rattle.base.specs.Lengths.{romLength}
 use Rattle.chip.specs.Registers.{mappedOf}
 use Rattle.certificate.specs.declared.NewValue.{NewValue}
 use Rattle.certificate.specs.declared.NewValue.the-variants.{Number, OneMore, OneLess, AtMost, CopyOf, Unknown}
@@ -33,10 +34,7 @@ noCell = 0xFF
 abbrev pub present : ℕ → Formula
 present x = neg (eq x noCell)
 
--- the end of program memory, and where RAM ends
-abbrev pub romEnd : ℕ
-romEnd = 4096
-
+-- where RAM ends
 abbrev pub ramEnd : ℕ
 ramEnd = 0xD0
 
@@ -154,7 +152,7 @@ module _ (C : Certificate) where
   unfoldable pub startRule : ℕ → Formula
   startRule n =
       used n
-      ⇒ lt (C .start n) romEnd & eq (C .routine (C .start n)) n & eq (C .depth (C .start n)) (pick (eqb n 1) unloaded 0)
+      ⇒ lt (C .start n) romLength & eq (C .routine (C .start n)) n & eq (C .depth (C .start n)) (pick (eqb n 1) unloaded 0)
       & (eq (C .side n) 1 ‖ eq (C .side n) 2)
 
   -- without claims or compare
@@ -176,7 +174,7 @@ module _ (C : Certificate) where
       & forallBelow 64 startRule
       & bareRule (C .start 1)
       & bareRule (C .start 2)
-      & forallBelow romEnd addressRule
+      & forallBelow romLength addressRule
 
   -- What the rules at an address say of an instruction there: a its address, S its summary, next the address behind it --
 
@@ -211,12 +209,12 @@ module _ (C : Certificate) where
 
   -- each successor is an entry of the same routine
   unfoldable pub successor : ℕ → ℕ → Formula
-  successor a t = lt t romEnd & eq (C .routine t) (C .routine a)
+  successor a t = lt t romLength & eq (C .routine t) (C .routine a)
 
   -- CALL goes to the start of a greater number on the same side
   unfoldable pub callTarget : ℕ → ℕ → Formula
   callTarget a t =
-      lt t romEnd & lt (C .routine a) (callee t) & eq (C .start (callee t)) t & eq (C .side (callee t)) (sideAt a)
+      lt t romLength & lt (C .routine a) (callee t) & eq (C .start (callee t)) t & eq (C .side (callee t)) (sideAt a)
 
   -- a rule on each edge: behind the instruction unless the condition always holds, to the jump's target unless it never does
   abbrev pub edges : Flow → ℕ → (Edge → Formula) → Formula
@@ -304,9 +302,9 @@ module _ (C : Certificate) where
   -- a direct LDC address outside ROM; the high cell's claim, low half 0 to 255, with the offset unwrapped
   abbrev pub codeInRom : ℕ → CodeAccess → Formula
   codeInRom a CodeAccess.Nothing = always
-  codeInRom a (CodeAccess.Direct t) = lt (t .0) romEnd
+  codeInRom a (CodeAccess.Direct t) = lt (t .0) romLength
   codeInRom a (CodeAccess.Pair p up down) =
-      claimed a (p .0) & le down (low a (p .0) * 256 + up) & lt (high a (p .0) * 256 + 255 + up) (romEnd + down)
+      claimed a (p .0) & le down (low a (p .0) * 256 + up) & lt (high a (p .0) * 256 + 255 + up) (romLength + down)
 
   unfoldable pub rule24 : ℕ → Summary → Formula
   rule24 a S = pointedRead a (S .first) & pointedRead a (S .second) & pointedWrite a (S .write) & codeInRom a (S .code)

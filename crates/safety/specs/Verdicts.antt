@@ -10,6 +10,7 @@ use Rattle.base.specs.Choice.{pick}
 use Rattle.base.specs.Outcome.{Outcome}
 use Rattle.base.specs.Outcome.Outcome.{value, refused}
 use Rattle.base.specs.Formula.{Formula, decide}
+use Rattle.base.specs.Lengths.{romLength, certificateLength}
 use Rattle.isa.specs.declared.Instruction.{Instruction}
 use Rattle.isa.specs.Map.{cyclesOf}
 use Rattle.decode.specs.Decode.{decodeAt}
@@ -17,9 +18,9 @@ use Rattle.action.specs.Action.{actionOf}
 use Rattle.certificate.specs.declared.Summary.{Summary}
 use Rattle.certificate.specs.declared.Verdict.{Verdict}
 use Rattle.certificate.specs.declared.Verdict.the-variants.{Accepted, Refused}
-use Rattle.certificate.specs.Layout.{Certificate, certificateLength, certificateOf}
+use Rattle.certificate.specs.Layout.{Certificate, certificateOf}
 use Rattle.certificate.specs.Summaries.{summaryOf, forbidden}
-use Rattle.safety.specs.Rules.{romEnd, rule20, rule21, rule22, rule23, rule24, rule25, rule26, rule27}
+use Rattle.safety.specs.Rules.{rule20, rule21, rule22, rule23, rule24, rule25, rule26, rule27}
 
 -- the instruction at an address: its summary, and the address behind it (one byte where there is none)
 unfoldable pub summaryFrom : Outcome (Instruction × ℕ) → ℕ → Summary
@@ -76,9 +77,9 @@ scan C image (suc n) a =
     elim (eqb (numberAt C image a) 0) [ true ↦ scan C image n (a + 1) | false ↦ Refused (numberAt C image a) (romAddr a) ]
 
 unfoldable pub verdictOn : Certificate → List ℕ → Verdict
-verdictOn C image = elim (decide (rule20 C image)) [ true ↦ scan C image romEnd 0 | false ↦ Refused 20 (romAddr 0) ]
+verdictOn C image = elim (decide (rule20 C image)) [ true ↦ scan C image romLength 0 | false ↦ Refused 20 (romAddr 0) ]
 
 unfoldable pub verdictOf : List ℕ → List ℕ → Verdict
 verdictOf image cert =
-    pick (eqb (length image) romEnd && eqb (length cert) certificateLength) (verdictOn (certificateOf cert) image)
+    pick (eqb (length image) romLength && eqb (length cert) certificateLength) (verdictOn (certificateOf cert) image)
     (Refused 7 (romAddr 0))

@@ -6,9 +6,10 @@ use mathlib.Core.List.{List}
 use lib.ListN.{length, take, drop}
 use lib.Dec.{eqb}
 use Rattle.base.specs.Choice.{pick}
+use Rattle.base.specs.Lengths.{romLength}
 use Rattle.semantics.specs.declared.State.{State}
 use Rattle.semantics.specs.declared.Ran.{Ran}
-use Rattle.semantics.specs.Step.{romLength, recordLength, stepOf}
+use Rattle.semantics.specs.Step.{recordLength, stepOf}
 
 abbrev pub ran : State → ℕ → ℕ → Ran
 ran s steps stop = record { state = s; steps = steps; stop = stop }

@@ -10,6 +10,7 @@ use Rattle.base.specs.Addresses.{romAddr}
 use Rattle.base.specs.Choice.{pick}
 use Rattle.base.specs.Outcome.{Outcome}
 use Rattle.base.specs.Outcome.Outcome.{value, refused}
+use Rattle.base.specs.Lengths.{romLength}
 use Rattle.isa.specs.declared.Instruction.{Instruction}
 use Rattle.isa.specs.Map.{cyclesOf}
 use Rattle.decode.specs.Decode.{decodeAt}
@@ -22,10 +23,7 @@ use Rattle.semantics.specs.declared.Stepped.{Stepped}
 use Rattle.semantics.specs.Operands.{pushOf, pushAddress, flagsOf}
 use Rattle.semantics.specs.Execute.{Executed, goesOn, executeOf}
 
--- the length of program memory, and of a schedule record
-abbrev pub romLength : ℕ
-romLength = 4096
-
+-- the length of a schedule record
 abbrev pub recordLength : ℕ
 recordLength = 8
 
