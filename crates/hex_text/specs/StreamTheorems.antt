@@ -94,7 +94,7 @@ body-bounds l = by-test (eqb (getD l (length l - 1) 0) 10) (eqb (getD l (length 
     by-test false b = (omega arith, omega arith)
 
 -- a line longer than any valid one
-long-refused : (reader : Reader) (n : ℕ) (l : List ℕ) → 523 < length l → readLine reader n l ≡ refused (longNumber reader n)
+pub long-refused : (reader : Reader) (n : ℕ) (l : List ℕ) → 523 < length l → readLine reader n l ≡ refused (longNumber reader n)
 unfolding readLine
 long-refused reader n l h =
     let b = body-bounds l in
@@ -146,7 +146,7 @@ ends-refused n s t h =
     rw (feed-refused n s t h, ne-eqb (s .number) 0 z)
 
 -- one more character is held
-held-more : (held : List ℕ) (count c : ℕ) → count < length held → take (count + 1) (set held count c) ≡ take count held ++ (c ∷ [])
+pub held-more : (held : List ℕ) (count c : ℕ) → count < length held → take (count + 1) (set held count c) ≡ take count held ++ (c ∷ [])
 held-more held count c h = rw add-one (take-suc-set held count c h)
 
 -- the answer to a text, the first lines of which are read
@@ -257,7 +257,7 @@ length-feedBuffer s [] m = refl
 length-feedBuffer s (c ∷ t) m = length-feedBuffer (pushStream (length m) s c) t (pushBuffer s c m) ∙ length-pushBuffer s c m
 
 -- wherever a file is cut, the pieces in turn make of the stream and the buffer what the whole file makes of them
-pieces-whole : (s : Stream) (ps : List (List ℕ)) (m : List ℕ)
+pub pieces-whole : (s : Stream) (ps : List (List ℕ)) (m : List ℕ)
     → (piecesStream (length m) s ps ≡ feedStream (length m) s (wholeOf ps)) × (piecesBuffer s ps m ≡ feedBuffer s (wholeOf ps) m)
 unfolding piecesStream piecesBuffer wholeOf feedStream feedBuffer
 pieces-whole s [] m = (refl, refl)
