@@ -10,7 +10,7 @@ use Rattle.base.specs.Outcome.{Outcome}
 use Rattle.base.specs.Outcome.Outcome.{value, refused}
 use Rattle.hex_text.specs.declared.Stream.{Stream}
 use Rattle.hex_text.specs.Text.{textAnswer, textBuffer}
-use Rattle.hex_text.specs.Stream.{feedStream, feedBuffer}
+use Rattle.hex_text.specs.Stream.{feedStream, feedBuffer, Leaves}
 use Rattle.report.specs.Report.{longestReport}
 use Rattle.judge.specs.Judgement.{printed}
 
@@ -20,16 +20,11 @@ pub record Fed (s next : Stream) (before after : List ℕ) : Type 0 where
   pub stream : next ≡ feedStream (length before) s text
   pub buffer : after ≡ feedBuffer s text before
 
--- a file that is read leaves its data in the buffer; what a refused file leaves there does not count
-abbrev pub Leaves : Outcome (Unit {0}) → List ℕ → List ℕ → List ℕ → Type 0
-Leaves (value u) text before after = after ≡ textBuffer text before
-Leaves (refused n) text before after = Unit {0}
-
 -- some text was read as a whole file
 pub record Reads (answer : Outcome (Unit {0})) (before after : List ℕ) : Type 0 where
   pub text : List ℕ
   pub answers : answer ≡ textAnswer text (length before)
-  pub leaves : Leaves answer text before after
+  pub leaves : Leaves answer (textBuffer text before) after
 
 -- some texts were read as an image file and a certificate file, and what is printed of them stands at the front of the buffer; 7 and nothing
 -- written where the buffer is shorter than the longest text

@@ -11,10 +11,10 @@ use mathlib.Core.Bool.{Bool, true, false}
 use Rattle.base.specs.Choice.{pick}
 use Rattle.base.specs.Outcome.{Outcome, onOutcome}
 use Rattle.base.specs.Outcome.Outcome.{value, refused}
-use Rattle.hex_line.specs.Line.{imageLength, bufferLength, begun}
+use Rattle.hex_line.specs.Line.{imageLength, bufferLength}
 use Rattle.hex_text.specs.declared.Stream.{Stream}
-use Rattle.hex_text.specs.Text.{lines, linesAnswer, linesBuffer, textAnswer, textBuffer}
-use Rattle.hex_text.specs.Stream.{started, feedStream, feedBuffer, finishAnswer, finishBuffer}
+use Rattle.hex_text.specs.Text.{lines, linesAnswer, textAnswer, textBuffer}
+use Rattle.hex_text.specs.Stream.{started, feedStream, feedBuffer, finishAnswer, Leaves}
 use Rattle.hex_text.specs.StreamTheorems.{feed-append, feed-append-buffer, piecesStream, piecesBuffer, wholeOf, stream-reads-text}
 use Rattle.certificate.specs.declared.Verdict.{Verdict}
 use Rattle.certificate.specs.Layout.{certificateLength, certificateOf}
@@ -22,7 +22,7 @@ use Rattle.safety.specs.Verdicts.{verdictOf}
 use Rattle.report.specs.Report.{longestReport, reportText, reportAnswer, reportBuffer}
 use Rattle.report.specs.ReportLaws.{report-length}
 use Rattle.judge.specs.Judgement.{judgement, filled, blankImage, blankCertificate, printed}
-use Rattle.files.specs.Reading.{Fed, Leaves, Reads, Judges}
+use Rattle.files.specs.Reading.{Fed, Reads, Judges}
 
 -- nothing was read
 pub fed-none : {s : Stream} {m : List ℕ} → Fed s s m m
@@ -40,24 +40,17 @@ fed-more {s} {s₁} {s₂} {m} {m₁} {m₂} e p q = record {
 -- one piece is the whole file
 one-piece : (t m : List ℕ)
     → (finishAnswer (length m) (feedStream (length m) started t) ≡ textAnswer t (length m))
-    × (finishBuffer (feedStream (length m) started t) (feedBuffer started t m) ≡ linesBuffer (lines t) begun m)
+    × Leaves (textAnswer t (length m)) (textBuffer t m) (feedBuffer started t m)
 unfolding piecesStream piecesBuffer wholeOf
 one-piece t m = rw (append-nil t) at (stream-reads-text (t ∷ []) m)
 
--- what a file leaves in the buffer, by the answer
-leaves-by : (o : Outcome (Unit {0})) (t m : List ℕ) → o ≡ textAnswer t (length m) → Leaves o t m (linesBuffer (lines t) begun m)
-unfolding textBuffer
-leaves-by (value u) t m e = rw (← e)
-leaves-by (refused n) t m e = tt
-
 -- the end of the file
-pub reads-finish : {s : Stream} {o : Outcome (Unit {0})} {m m₁ m₂ : List ℕ} → length m₁ ≡ length m → Fed started s m m₁
-    → o ≡ finishAnswer (length m₁) s → m₂ ≡ finishBuffer s m₁ → Reads o m m₂
-reads-finish {s} {o} {m} {m₁} {m₂} e p a b =
+pub reads-finish : {s : Stream} {o : Outcome (Unit {0})} {m m₁ : List ℕ} → length m₁ ≡ length m → Fed started s m m₁
+    → o ≡ finishAnswer (length m₁) s → Reads o m m₁
+reads-finish {s} {o} {m} {m₁} e p a =
     let w = one-piece (p .text) m in
     let answers : o ≡ textAnswer (p .text) (length m) = a ∙ rw (e, p .stream) (w .0) in
-    let left : m₂ ≡ linesBuffer (lines (p .text)) begun m = b ∙ rw (p .stream, p .buffer) (w .1) in
-    record { text = p .text; answers = answers; leaves = rw left (leaves-by o (p .text) m answers) }
+    record { text = p .text; answers = answers; leaves = rw (answers, p .buffer) (w .1) }
 
 -- an empty file is refused
 empty-answer : (n : ℕ) → textAnswer [] n ≡ refused (pick (bufferLength n) 6 7)
@@ -69,9 +62,9 @@ empty-answer n = by-test (bufferLength n)
     by-test false = refl
 
 -- a file that cannot be read counts as empty, whatever was read before
-pub reads-none : {o : Outcome (Unit {0})} {m m₂ : List ℕ} (m₁ : List ℕ) → length m₁ ≡ length m → o ≡ finishAnswer (length m₁) started → Reads o m m₂
+pub reads-none : {o : Outcome (Unit {0})} {m m₁ : List ℕ} → length m₁ ≡ length m → o ≡ finishAnswer (length m₁) started → Reads o m m₁
 unfolding feedStream
-reads-none {o} {m} {m₂} m₁ e a =
+reads-none {o} {m} {m₁} e a =
     let f : textAnswer [] (length m) ≡ refused (pick (bufferLength (length m)) 6 7) = empty-answer (length m) in
     let g : finishAnswer (length m₁) started ≡ refused (pick (bufferLength (length m)) 6 7) = rw e (one-piece [] m .0 ∙ f) in
     rw (a ∙ g) (record { text = []; answers = sym f; leaves = tt })
@@ -86,7 +79,7 @@ read-answer n x p = rw (length-filled n x) at (p .answers)
 
 -- the judgement of what the two files left is that of the two texts: the buffers of refused files do not count
 judges-by : (i c : Outcome (Unit {0})) (s t image cert : List ℕ) → i ≡ textAnswer s imageLength → c ≡ textAnswer t certificateLength
-    → Leaves i s blankImage image → Leaves c t blankCertificate cert
+    → Leaves i (textBuffer s blankImage) image → Leaves c (textBuffer t blankCertificate) cert
     → reportText (judgement i c (verdictOf image cert)) (certificateOf cert) ≡ printed s t
 unfolding printed
 judges-by (value u) (value v) s t image cert a b p q = rw (← a, ← b, p, q)

@@ -55,7 +55,7 @@ fn read_open(fd: i32, buffer: &mut [u8]) -> Text
         let next = turn.stream;
         let state = turn.state;
         if state == FAILED {
-            return hex_text::finish(hex_text::start(), buffer);
+            return hex_text::finish(hex_text::start(), buffer.len());
         }
         s = next;
         turns -= 1;
@@ -63,7 +63,7 @@ fn read_open(fd: i32, buffer: &mut [u8]) -> Text
             turns = 0;
         }
     }
-    hex_text::finish(s, buffer)
+    hex_text::finish(s, buffer.len())
 }
 
 // Reads a file by its name. A missing file counts as empty.
@@ -72,7 +72,7 @@ fn read_file(name: &[u8], buffer: &mut [u8]) -> Text
 {
     let fd = os::open_read(name);
     if fd < 0 {
-        return hex_text::finish(hex_text::start(), buffer);
+        return hex_text::finish(hex_text::start(), buffer.len());
     }
     let answer = read_open(fd, buffer);
     libc::close(fd);

@@ -2,7 +2,7 @@
 -- Assumes nothing.
 use Prim.Native.Nat.{ℕ, zero, suc, _+_, _*_, _%_, _≤_, _<_}
 use mathlib.Core.Path.{_≡_, refl, ap, _∙_}
-use mathlib.Core.Bool.{Bool, true, false}
+use mathlib.Core.Bool.{Bool, true, false, false≢true}
 use mathlib.Core.List.{List, [], _∷_, _++_}
 use native.Mathlib.Numerals.{add-one}
 use native.Mathlib.Omega.{arith}
@@ -33,9 +33,9 @@ length-dataOf l zero = refl
 length-dataOf l (suc n) =
     length-append (dataOf l n) (pairAt l (n * 2 + 9) % 256 ∷ []) ∙ (ap (λ (k : ℕ). k + 1) (length-dataOf l n) ∙ add-one n)
 
--- a record that is read ends within the buffer; a refusal has a number above 0
+-- a record that is read ends within the buffer, the end line at address 0; a refusal has a number above 0
 abbrev Within : ℕ → ℕ → Outcome Reader → Type 0
-Within end size (value next) = end ≤ size
+Within end size (value next) = (end ≤ size) × (next .ended ≡ true → end ≡ 0)
 Within end size (refused n) = 0 < n
 
 within-pick : (end size : ℕ) (t : Bool) (x y : Outcome Reader) → (t ≡ true → Within end size x) → (t ≡ false → Within end size y)
@@ -51,7 +51,8 @@ module _ (reader : Reader) (size : ℕ) (f : Fields) where
   within-end =
       within-pick end size (eqb (f .count) 0) _ _
       (λ c. within-pick end size (eqb (f .address) 0) _ _
-      (λ a. within-pick end size (eqb (f .sum) 0) _ _ (λ s. omega (arith, eqb-true (f .count) 0 c, eqb-true (f .address) 0 a)) (λ s. omega arith)) (λ a. omega arith))
+      (λ a. within-pick end size (eqb (f .sum) 0) _ _
+      (λ s. let z : end ≡ 0 = omega (arith, eqb-true (f .count) 0 c, eqb-true (f .address) 0 a) in (omega arith, λ e. z)) (λ s. omega arith)) (λ a. omega arith))
       (λ c. omega arith)
 
   within-data : Within end size (readData reader size f)
@@ -59,7 +60,8 @@ module _ (reader : Reader) (size : ℕ) (f : Fields) where
       within-pick end size (eqb (f .sum) 0) _ _
       (λ s. within-pick end size (eqb (f .kind) 0) _ _
       (λ k. within-pick end size (leb (reader .next) (f .address)) _ _
-      (λ a. within-pick end size (leb end size) (value (record { next = end; ended = false })) (refused 5) (λ e. leb-true (f .address + f .count) size e) (λ e. omega arith)) (λ a. omega arith)) (λ k. omega arith))
+      (λ a. within-pick end size (leb end size) (value (record { next = end; ended = false })) (refused 5)
+      (λ e. (leb-true (f .address + f .count) size e, λ d. absurd (false≢true d))) (λ e. omega arith)) (λ a. omega arith)) (λ k. omega arith))
       (λ s. omega arith)
 
   within-fields : Within end size (readFields reader size f)
@@ -86,10 +88,20 @@ within-line reader size l =
 
 pub read-within : (reader : Reader) (size : ℕ) (l : List ℕ) (next : Reader) → readLine reader size l ≡ value next
     → addressOf (bodyOf l) + countOf (bodyOf l) ≤ size
-read-within reader size l next e = rw e at (within-line reader size l)
+read-within reader size l next e = (rw e at (within-line reader size l)) .0
 
 pub refused-above : (reader : Reader) (size : ℕ) (l : List ℕ) (n : ℕ) → readLine reader size l ≡ refused n → 0 < n
 refused-above reader size l n e = rw e at (within-line reader size l)
+
+-- the line that ends a text writes nothing
+pub end-keeps : (reader : Reader) (l m : List ℕ) (next : Reader) → readLine reader (length m) l ≡ value next → next .ended ≡ true
+    → lineBuffer reader l m ≡ m
+unfolding lineBuffer stored dataOf
+end-keeps reader l m next e d =
+    let z : addressOf (bodyOf l) + countOf (bodyOf l) ≡ 0 = (rw e at (within-line reader (length m) l)) .1 d in
+    let a : addressOf (bodyOf l) ≡ 0 = omega arith in
+    let n : countOf (bodyOf l) ≡ 0 = omega arith in
+    rw (e, a, n)
 
 -- a buffer keeps its length
 length-stored : (body m : List ℕ) → addressOf body + countOf body ≤ length m → length (stored body m) ≡ length m

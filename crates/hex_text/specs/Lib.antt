@@ -3,3 +3,4 @@ pub mod TextLaws
 pub mod Stream
 pub mod StreamLaws
 pub mod StreamTheorems
+pub mod StreamBuffer

@@ -1,12 +1,13 @@
 -- A file that is fed in pieces: what one character does, a piece as the fold over its characters, and the file's end.
 -- Assumes nothing.
 use Prim.Native.Nat.{ℕ, _+_}
+use mathlib.Core.Path.{_≡_}
 use mathlib.Core.List.{List, [], _∷_}
 use lib.ListN.{length, take, set, replicate}
 use lib.Dec.{eqb, leb}
 use Rattle.base.specs.Choice.{pick}
 use Rattle.base.specs.Outcome.{Outcome, andThen, onOutcome}
-use Rattle.base.specs.Outcome.Outcome.{refused}
+use Rattle.base.specs.Outcome.Outcome.{value, refused}
 use Rattle.hex_line.specs.Line.{bufferLength, begun, readLine, lineBuffer}
 use Rattle.hex_line.specs.declared.Reader.{Reader}
 use Rattle.hex_text.specs.declared.Stream.{Stream}
@@ -80,10 +81,7 @@ finishAnswer size s =
     (refused 7))
     (refused (s .number))
 
-unfoldable pub finishBuffer : Stream → List ℕ → List ℕ
-finishBuffer s m =
-    pick (eqb (s .number) 0)
-    (pick (bufferLength (length m))
-    (pick (eqb (s .count) 0) m (pick (leb (s .count) longest) (lineBuffer (s .reader) (heldLine s) m) m))
-    m)
-    m
+-- what stands in the buffer behind a file that is read; what a refused file leaves there does not count
+abbrev pub Leaves : Outcome (Unit {0}) → List ℕ → List ℕ → Type 0
+Leaves (value u) expected after = after ≡ expected
+Leaves (refused n) expected after = Unit {0}

@@ -16,14 +16,14 @@ use Rattle.base.specs.Formula.{le?, same?}
 use Rattle.base.specs.Outcome.{Outcome, andThen, onOutcome}
 use Rattle.base.specs.Outcome.Outcome.{value, refused}
 use Rattle.hex_line.specs.Record.{digitOf, pairAt, sumOf, countOf, fieldsOf, parseBody, bodyLength, bodyOf}
-use Rattle.hex_line.specs.Line.{bufferLength, begun, readFields, readLine, stored, lineBuffer}
-use Rattle.hex_line.specs.LineLaws.{refused-above, length-lineBuffer}
+use Rattle.hex_line.specs.Line.{bufferLength, begun, readFields, readLine, lineBuffer}
+use Rattle.hex_line.specs.LineLaws.{refused-above, end-keeps, length-lineBuffer}
 use Rattle.hex_line.specs.declared.Reader.{Reader}
 use Rattle.hex_text.specs.declared.Stream.{Stream}
-use Rattle.hex_text.specs.Text.{lines, firstLength, linesAnswer, linesBuffer, textAnswer}
+use Rattle.hex_text.specs.Text.{lines, firstLength, endAnswer, linesAnswer, linesBuffer, textAnswer, textBuffer}
 use Rattle.hex_text.specs.TextLaws.{Plain, plain-append, first-line-of, first-line, no-line, last-line, first-behind, first-positive, first-within}
-use Rattle.hex_text.specs.Stream.{streamOf, started, longNumber, heldLine, appended, pushStream, pushBuffer, feedStream, feedBuffer, finishAnswer, finishBuffer}
-use Rattle.hex_text.specs.StreamLaws.{feed-refused, feed-refused-buffer, long-above}
+use Rattle.hex_text.specs.Stream.{streamOf, started, longNumber, heldLine, appended, pushStream, pushBuffer, feedStream, feedBuffer, finishAnswer, Leaves}
+use Rattle.hex_text.specs.StreamLaws.{feed-refused, long-above}
 
 -- the buffer keeps its length
 length-pushBuffer : (s : Stream) (c : ℕ) (m : List ℕ) → length (pushBuffer s c m) ≡ length m
@@ -94,7 +94,7 @@ body-bounds l = by-test (eqb (getD l (length l - 1) 0) 10) (eqb (getD l (length 
     by-test false b = (omega arith, omega arith)
 
 -- a line longer than any valid one
-long-refused : (reader : Reader) (n : ℕ) (l : List ℕ) → 523 < length l → readLine reader n l ≡ refused (longNumber reader n)
+pub long-refused : (reader : Reader) (n : ℕ) (l : List ℕ) → 523 < length l → readLine reader n l ≡ refused (longNumber reader n)
 unfolding readLine
 long-refused reader n l h =
     let b = body-bounds l in
@@ -117,58 +117,58 @@ refused-stands reader n l k e = by-test (bufferLength n) e
     by-test true q = refl
     by-test false q = ap (λ (o : Outcome Reader). onOutcome o (λ next. refused 7) (λ j. refused j)) q
 
--- the buffer behind a last line, with or without the test of its length
-last-buffer : (reader : Reader) (l m : List ℕ)
-    → pick (bufferLength (length m)) (lineBuffer reader l m) m
-    ≡ onOutcome (readLine reader (length m) l) (λ next. lineBuffer reader l m) (λ k. m)
-unfolding lineBuffer readLine
-last-buffer reader l m =
-    by-test (bufferLength (length m)) (pick (reader .ended) (refused 6) (andThen (parseBody (bodyOf l)) (readFields reader (length m))))
+-- behind the last LF nothing is written: a line there is the end line, or the file is refused
+last-leaves : (reader : Reader) (l m : List ℕ)
+    → Leaves (pick (bufferLength (length m)) (andThen (readLine reader (length m) l) endAnswer) (refused 7))
+    (onOutcome (readLine reader (length m) l) (λ next. lineBuffer reader l m) (λ k. m)) m
+last-leaves reader l m = by-answer (bufferLength (length m)) (readLine reader (length m) l) refl
   where
-    by-test : (b : Bool) (o : Outcome Reader)
-        → pick b (onOutcome (pick b o (refused 7)) (λ next. stored (bodyOf l) m) (λ k. m)) m
-        ≡ onOutcome (pick b o (refused 7)) (λ next. onOutcome (pick b o (refused 7)) (λ next. stored (bodyOf l) m) (λ k. m)) (λ k. m)
-    by-test true (value next) = refl
-    by-test true (refused k) = refl
-    by-test false o = refl
+    by-end : (next : Reader) → readLine reader (length m) l ≡ value next → (d : Bool) → next .ended ≡ d
+        → Leaves (pick d (value tt) (refused 6)) (lineBuffer reader l m) m
+    by-end next e true d = sym (end-keeps reader l m next e d)
+    by-end next e false d = tt
 
-refused-buffer : (reader : Reader) (l m : List ℕ) (k : ℕ) → readLine reader (length m) l ≡ refused k → lineBuffer reader l m ≡ m
-unfolding lineBuffer
-refused-buffer reader l m k e = rw e
+    by-answer : (b : Bool) (o : Outcome Reader) → readLine reader (length m) l ≡ o
+        → Leaves (pick b (andThen o endAnswer) (refused 7)) (onOutcome o (λ next. lineBuffer reader l m) (λ k. m)) m
+    by-answer true (value next) e = by-end next e (next .ended) refl
+    by-answer true (refused k) e = tt
+    by-answer false o e = tt
+
+leaves-same : (o : Outcome (Unit {0})) (m : List ℕ) → Leaves o m m
+leaves-same (value u) m = refl
+leaves-same (refused k) m = tt
 
 -- a refused file
-ends-refused : (n : ℕ) (s : Stream) (t m : List ℕ) → 0 < s .number
-    → (finishAnswer n (feedStream n s t) ≡ refused (s .number)) × (finishBuffer (feedStream n s t) (feedBuffer s t m) ≡ m)
-unfolding finishAnswer finishBuffer
-ends-refused n s t m h =
+ends-refused : (n : ℕ) (s : Stream) (t : List ℕ) → 0 < s .number → finishAnswer n (feedStream n s t) ≡ refused (s .number)
+unfolding finishAnswer
+ends-refused n s t h =
     let z : s .number ≡ 0 → ⊥ = omega arith in
-    rw (feed-refused n s t h, feed-refused-buffer s t m h, ne-eqb (s .number) 0 z) (refl, refl)
+    rw (feed-refused n s t h, ne-eqb (s .number) 0 z)
 
 -- one more character is held
-held-more : (held : List ℕ) (count c : ℕ) → count < length held → take (count + 1) (set held count c) ≡ take count held ++ (c ∷ [])
+pub held-more : (held : List ℕ) (count c : ℕ) → count < length held → take (count + 1) (set held count c) ≡ take count held ++ (c ∷ [])
 held-more held count c h = rw add-one (take-suc-set held count c h)
+
+-- the answer to a text, the first lines of which are read
+abbrev answerFrom : Reader → ℕ → List ℕ → Outcome (Unit {0})
+answerFrom reader n t = pick (bufferLength n) (linesAnswer (lines t) reader n) (refused 7)
 
 -- a stream with an unfinished line reads what is left of the text as the lines of both
 abbrev Same : ℕ → List ℕ → Reader → List ℕ → ℕ → List ℕ → Type 0
 Same n t reader held count m =
-    (finishAnswer n (feedStream n (streamOf reader held count 0) t)
-    ≡ pick (bufferLength n) (linesAnswer (lines (take count held ++ t)) reader n) (refused 7))
-    × (finishBuffer (feedStream n (streamOf reader held count 0) t) (feedBuffer (streamOf reader held count 0) t m)
-    ≡ linesBuffer (lines (take count held ++ t)) reader m)
+    (finishAnswer n (feedStream n (streamOf reader held count 0) t) ≡ answerFrom reader n (take count held ++ t))
+    × Leaves (answerFrom reader n (take count held ++ t)) (linesBuffer (lines (take count held ++ t)) reader m)
+    (feedBuffer (streamOf reader held count 0) t m)
 
 same-end : (n : ℕ) (reader : Reader) (held : List ℕ) (count : ℕ) (m : List ℕ) → length m ≡ n → length held ≡ 523 → count ≤ 523
     → Plain (take count held) → Same n [] reader held count m
-unfolding feedStream feedBuffer finishAnswer finishBuffer linesAnswer linesBuffer
-same-end n reader held zero m e w h p = rw no-line (refl, by-test (bufferLength (length m)))
-  where
-    by-test : (b : Bool) → pick b m m ≡ m
-    by-test true = refl
-    by-test false = refl
+unfolding feedStream feedBuffer finishAnswer linesAnswer linesBuffer
+same-end n reader held zero m e w h p = rw no-line (refl, leaves-same (pick (bufferLength n) (endAnswer reader) (refused 7)) m)
 same-end n reader [] (suc count) m e w h p = let z : ⊥ = omega arith in absurd z
 same-end n reader (x ∷ held) (suc count) m e w h p =
     let z : suc count ≡ 0 → ⊥ = omega arith in
-    rw (last-line x (take count held) p, le-leb (suc count) 523 h, ne-eqb (suc count) 0 z)
-    (refl, last-buffer reader (x ∷ take count held) m)
+    rw (← e, last-line x (take count held) p, le-leb (suc count) 523 h, ne-eqb (suc count) 0 z)
+    (refl, last-leaves reader (x ∷ take count held) m)
 
 module _ (n : ℕ) (t : List ℕ) (c : ℕ) (reader : Reader) (held : List ℕ) (count : ℕ) (m : List ℕ) (e : length m ≡ n)
     (w : length held ≡ 523) (p : Plain (take count held)) where
@@ -182,10 +182,11 @@ module _ (n : ℕ) (t : List ℕ) (c : ℕ) (reader : Reader) (held : List ℕ) 
       let k : length (take count held) ≡ count = length-take-le count held (omega arith) in
       let long : 523 < length l = rw (length-take-le (firstLength x) x (first-within x)) (omega (arith, first-positive c t)) in
       let g : readLine reader n l ≡ refused (longNumber reader n) = long-refused reader n l long in
-      let r = ends-refused n (streamOf reader held count (longNumber reader n)) t m (long-above reader n) in
+      let r = ends-refused n (streamOf reader held count (longNumber reader n)) t (long-above reader n) in
+      let b = refused-stands reader n l (longNumber reader n) g in
       let o : lines x ≡ l ∷ lines (drop (firstLength x) x) =
       first-line-of x (omega (arith, length-append (take count held) (c ∷ t))) in
-      rw (e, le-leb 523 count a, o, e, g) (r .0 ∙ sym (refused-stands reader n l (longNumber reader n) g), r .1)
+      rw (e, le-leb 523 count a, o, e, g, b) (r, tt)
 
   -- any other character than LF
   same-character : count < 523 → (c ≡ 10 → ⊥) → Same n t reader (set held count c) (count + 1) m → Same n (c ∷ t) reader held count m
@@ -212,9 +213,8 @@ module _ (n : ℕ) (t : List ℕ) (c : ℕ) (reader : Reader) (held : List ℕ) 
           rw (e, lt-leb 523 count a, eq-eqb c 10 d, o, e, g)
           (ih next (lineBuffer reader l m) (length-lineBuffer reader l m ∙ e))
       by-answer (refused k) g =
-          let r = ends-refused n (streamOf reader (set held count c) (count + 1) k) t (lineBuffer reader l m) (refused-above reader n l k g) in
-          rw (e, lt-leb 523 count a, eq-eqb c 10 d, o, e, g)
-          (r .0 ∙ sym (refused-stands reader n l k g), r .1 ∙ refused-buffer reader l m k (rw e g))
+          let r = ends-refused n (streamOf reader (set held count c) (count + 1) k) t (refused-above reader n l k g) in
+          rw (e, lt-leb 523 count a, eq-eqb c 10 d, o, e, g, refused-stands reader n l k g) (r, tt)
 
 abbrev Follows : ℕ → List ℕ → Type 0
 Follows n t =
@@ -257,7 +257,7 @@ length-feedBuffer s [] m = refl
 length-feedBuffer s (c ∷ t) m = length-feedBuffer (pushStream (length m) s c) t (pushBuffer s c m) ∙ length-pushBuffer s c m
 
 -- wherever a file is cut, the pieces in turn make of the stream and the buffer what the whole file makes of them
-pieces-whole : (s : Stream) (ps : List (List ℕ)) (m : List ℕ)
+pub pieces-whole : (s : Stream) (ps : List (List ℕ)) (m : List ℕ)
     → (piecesStream (length m) s ps ≡ feedStream (length m) s (wholeOf ps)) × (piecesBuffer s ps m ≡ feedBuffer s (wholeOf ps) m)
 unfolding piecesStream piecesBuffer wholeOf feedStream feedBuffer
 pieces-whole s [] m = (refl, refl)
@@ -267,11 +267,20 @@ pieces-whole s (p ∷ ps) m =
       ih .1 ∙ sym (feed-append-buffer s p (wholeOf ps) m),
     )
 
--- start, feed and finish over any pieces answer and write as the lines of the whole file read in turn
+-- a text that is read leaves what its lines leave
+leaves-text : (o : Outcome (Unit {0})) (t m after : List ℕ) → textAnswer t (length m) ≡ o → Leaves o (linesBuffer (lines t) begun m) after
+    → Leaves o (textBuffer t m) after
+unfolding textBuffer
+leaves-text (value u) t m after e q = rw e q
+leaves-text (refused k) t m after e q = tt
+
+-- start, feed and finish over any pieces answer as `read_text` does of the whole file, and where it is read the buffer is the same
 pub stream-reads-text : (ps : List (List ℕ)) (m : List ℕ)
     → (finishAnswer (length m) (piecesStream (length m) started ps) ≡ textAnswer (wholeOf ps) (length m))
-    × (finishBuffer (piecesStream (length m) started ps) (piecesBuffer started ps m) ≡ linesBuffer (lines (wholeOf ps)) begun m)
+    × Leaves (textAnswer (wholeOf ps) (length m)) (textBuffer (wholeOf ps) m) (piecesBuffer started ps m)
 unfolding textAnswer
 stream-reads-text ps m =
     let w = pieces-whole started ps m in
-    rw (w .0, w .1) (same (length m) (wholeOf ps) begun (replicate 523 0) 0 m refl (length-replicate {A = ℕ} 523 0) (omega arith) tt)
+    let t = wholeOf ps in
+    let r = same (length m) t begun (replicate 523 0) 0 m refl (length-replicate {A = ℕ} 523 0) (omega arith) tt in
+    rw (w .0, w .1) (r .0, leaves-text (textAnswer t (length m)) t m (feedBuffer started t m) refl (r .1))

@@ -21,6 +21,15 @@ unfoldable pub lines : List ℕ → List (List ℕ)
 lines [] = []
 lines (c ∷ t) = pick (eqb c 10) ((c ∷ []) ∷ lines t) (onto c (lines t))
 
+-- the lines that LF ends: what stands behind the last LF is none of them
+abbrev pub ontoFirst : ℕ → List (List ℕ) → List (List ℕ)
+ontoFirst c [] = []
+ontoFirst c (l ∷ ls) = (c ∷ l) ∷ ls
+
+unfoldable pub endedLines : List ℕ → List (List ℕ)
+endedLines [] = []
+endedLines (c ∷ t) = pick (eqb c 10) ((c ∷ []) ∷ endedLines t) (ontoFirst c (endedLines t))
+
 -- the length of the first line, its LF included
 unfoldable pub firstLength : List ℕ → ℕ
 firstLength [] = 0

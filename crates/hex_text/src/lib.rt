@@ -3,9 +3,9 @@ ghost use mathlib.Core.Path.{_≡_};
 ghost use Prim.Native.Nat.{_+_, _<_, _≤_};
 ghost use lib.ListN.{length, take, drop};
 ghost use Rattle.base.specs.Outcome.{andThen};
-ghost use Rattle.hex_line.specs.Line.{begun, readLine, lineBuffer};
+ghost use Rattle.hex_line.specs.Line.{begun, readLine};
 ghost use Rattle.hex_text.specs.Text.{lines, firstLength, textOutcome, endAnswer, linesAnswer, linesBuffer, textAnswer, textBuffer};
-ghost use Rattle.hex_text.specs.Stream.{streamOf, started, longNumber, feedStream, feedBuffer, finishAnswer, finishBuffer};
+ghost use Rattle.hex_text.specs.Stream.{streamOf, started, longNumber, feedStream, feedBuffer, finishAnswer};
 use hex_line::Line;
 use hex_line::Reader;
 
@@ -193,28 +193,25 @@ pub fn feed(s: Stream, piece: &[u8], buffer: &mut [u8]) -> Stream
     s
 }
 
-// Reads the line behind the last LF, and answers for the whole file.
-fn read_last(reader: Reader, held: [u8; 523], count: usize, buffer: &mut [u8]) -> Text
+// The answer to a file whose last line has no LF. It writes nothing.
+fn check_last(reader: Reader, held: [u8; 523], count: usize, length: usize) -> Text
     requires { ⌜ count ≤ 523 ⌝ }
-    ensures { λ r. ⌜ textOutcome r ≡ andThen (readLine reader (length (now (buffer .entry))) (take count held)) endAnswer ⌝ }
-    ensures { λ r. ⌜ now (buffer .exit) ≡ lineBuffer reader (take count held) (now (buffer .entry)) ⌝ }
+    ensures { λ r. ⌜ textOutcome r ≡ andThen (readLine reader length (take count held)) endAnswer ⌝ }
 {
-    match hex_line::read_line(&held[..count], buffer, reader) {
+    match hex_line::check_line(&held[..count], length, reader) {
         Line::Read(next) => end_answer(next),
         Line::Refused(fault) => Text::Refused(hex_line::number(fault)),
     }
 }
 
-// The file ends: its last line may have no LF.
-pub fn finish(s: Stream, buffer: &mut [u8]) -> Text
-    ensures { λ r. ⌜ textOutcome r ≡ finishAnswer (length (now (buffer .entry))) s ⌝ }
-    ensures { λ r. ⌜ now (buffer .exit) ≡ finishBuffer s (now (buffer .entry)) ⌝ }
+// The file ends: the answer for a buffer of this length. Nothing is left to write: a last line without LF is the end line, or the file is refused.
+pub fn finish(s: Stream, length: usize) -> Text
+    ensures { λ r. ⌜ textOutcome r ≡ finishAnswer length s ⌝ }
 {
     let number = s.number;
     if number != 0 {
         return Text::Refused(number);
     }
-    let length = buffer.len();
     if hex_line::is_buffer_length(length) {
         let reader = s.reader;
         let count = s.count;
@@ -225,7 +222,7 @@ pub fn finish(s: Stream, buffer: &mut [u8]) -> Text
             return Text::Refused(long_number(reader, length));
         }
         let held = s.held;
-        return read_last(reader, held, count, buffer);
+        return check_last(reader, held, count, length);
     }
     Text::Refused(7)
 }

@@ -69,7 +69,7 @@ fn read_pieces(text: &[u8], step: usize, image: &mut [u8]) -> u8
         s = hex_text::feed(s, &text[at..e], image);
         at = e;
     }
-    text_number(hex_text::finish(s, image))
+    text_number(hex_text::finish(s, image.len()))
 }
 
 fn put(image: &mut [u8], at: usize, byte: u8) {
@@ -103,6 +103,18 @@ fn example(text: &[u8]) {
     print(b" ");
     print(text);
     print(b"\n");
+}
+
+// Prints the answer to a file that is one data line without LF, and whether the image is as it was.
+fn example_without_end() {
+    let kept = [255u8; 4096];
+    let mut image = [255u8; 4096];
+    print_number(wide(read_pieces(b":020100008FFF6F", 1, &mut image)));
+    if check::same(&image, &kept) {
+        print(b" image unchanged\n");
+    } else {
+        print(b" image changed\n");
+    }
 }
 
 // Prints the answers for an image of 4095 bytes.
@@ -264,6 +276,7 @@ fn main() {
     example(b":020100008FFF6F\n:020100008FFF6F");
     example(b":020FFF000102ED");
     example(b"");
+    example_without_end();
     example_of_length();
     write_and_read();
     let path = b"hex.bin";

@@ -1,6 +1,6 @@
 // Writes an image as Intel HEX.
 ghost use mathlib.Core.Path.{_≡_};
-ghost use Prim.Native.Nat.{_+_, _*_, _<_, _≤_};
+ghost use Prim.Native.Nat.{_+_, _*_, _%_, _<_, _≤_};
 ghost use mathlib.Core.List.{_++_};
 ghost use lib.ListN.{length, drop};
 ghost use Rattle.hex_write.specs.ImageText.{hexDigit, headByte, headSum, recordByte, recordLine, endLine, imageText, writtenOutcome, writeAnswer, writeBuffer};
@@ -16,12 +16,12 @@ pub enum Written {
     WrongLength,
 }
 
-// The upper-case digit of a value below 16. Public for the crates above.
+// The upper-case digit of the low four bits. Public for the crates above.
 pub fn hex_digit(x: u8) -> u8
-    requires { ⌜ x < 16 ⌝ }
-    ensures { λ r. ⌜ r ≡ hexDigit x ⌝ }
+    ensures { λ r. ⌜ r ≡ hexDigit (x % 16) ⌝ }
 {
-    if x < 10 { x + 48 } else { x + 55 }
+    let low = x % 16;
+    if low < 10 { low + 48 } else { low + 55 }
 }
 
 // Byte j of record k before its sum: length, address, type, data.
@@ -74,7 +74,7 @@ fn write_record(out: &mut [u8], image: &[u8], k: usize)
     while j < 21 {
         let b = record_byte(image, k, j);
         out[j * 2 + 1] = hex_digit(b / 16);
-        out[j * 2 + 2] = hex_digit(b % 16);
+        out[j * 2 + 2] = hex_digit(b);
         j += 1;
     }
     out[43] = 10;

@@ -1,6 +1,5 @@
 -- `read_file`: by what its callees promise.
 -- Assumes nothing.
-use denote.Ref.{now}
 use mathlib.Core.Path.{refl}
 use Rattle.files.specs.ReadingLaws.{reads-none}
 use borrow.Author.Needs.{needs}
@@ -16,13 +15,8 @@ start-requires c κs = search needs
 finish-requires : tie.Need-finish-requires
 finish-requires c κs = search needs
 
-same-length : tie.Need-same-length
-same-length c = search needs
-
 returns : tie.Need-returns
-returns c =
-    reads-none (now (c .before .before .before .before .before .before .before .before .before .args .buffer)) refl
-    (rw (c .before .before .before .before .start .ensures) at (c .before .before .finish .ensures .0))
+returns c = reads-none refl (rw (c .before .start .ensures) at (c .finish .ensures))
 
 read-open-requires : tie.Need-read-open-requires
 read-open-requires c κs = search needs
@@ -30,8 +24,8 @@ read-open-requires c κs = search needs
 close-requires : tie.Need-close-requires
 close-requires c κs = search needs
 
-same-length-2 : tie.Need-same-length-2
-same-length-2 c = search needs
+same-length : tie.Need-same-length
+same-length c = search needs
 
 returns-2 : tie.Need-returns-2
 returns-2 c = search needs
@@ -43,9 +37,8 @@ read-file-spec =
     open-read-requires
     start-requires
     finish-requires
-    same-length
     returns
     read-open-requires
     close-requires
-    same-length-2
+    same-length
     returns-2)

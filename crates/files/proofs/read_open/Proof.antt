@@ -31,11 +31,10 @@ finish-requires : tie.Need-finish-requires Inv-loop μ-loop
 finish-requires c κs = search needs
 
 same-length : tie.Need-same-length Inv-loop μ-loop
-same-length c = c .before .buffer2 .given ∙ (c .before .before .before .before .before .before .before .before .buffer .given ∙ c .before .before .before .before .before .before .before .before .before .before .before .before .loop .inv .1)
+same-length c = c .before .before .before .before .before .buffer .given ∙ c .before .before .before .before .before .before .before .before .before .loop .inv .1
 
 returns : tie.Need-returns Inv-loop μ-loop
-returns c = reads-none (c .before .before .before .before .before .before .before .before .before .read-piece .last .1 .1 .0) (c .before .before .before .before .before .before .before .before .buffer .given ∙ c .before .before .before .before .before .before .before .before .before .before .before .before .loop .inv .1)
-    (rw (c .before .before .before .before .start2 .ensures) at (c .before .before .finish .ensures .0))
+returns c = reads-none (c .before .before .before .before .before .buffer .given ∙ c .before .before .before .before .before .before .before .before .before .loop .inv .1) (rw (c .before .start2 .ensures) at (c .finish .ensures))
 
 sub-turns : tie.Need-sub-turns Inv-loop μ-loop
 sub-turns c = search needs
@@ -56,10 +55,10 @@ finish-requires-2 : tie.Need-finish-requires-2 Inv-loop μ-loop
 finish-requires-2 c κs = search needs
 
 same-length-2 : tie.Need-same-length-2 Inv-loop μ-loop
-same-length-2 c = c .before .buffer3 .given ∙ c .before .before .before .before .before .loop .inv .1
+same-length-2 c = c .before .before .loop .inv .1
 
 returns-2 : tie.Need-returns-2 Inv-loop μ-loop
-returns-2 c = reads-finish (c .before .before .before .before .before .loop .inv .1) (c .before .before .before .before .before .loop .inv .0) (c .before .before .finish2 .ensures .0) (c .before .before .finish2 .ensures .1)
+returns-2 c = reads-finish (c .before .before .loop .inv .1) (c .before .before .loop .inv .0) (c .finish2 .ensures)
 
 pub read-open-spec : {M : Type 1} → statement M
 read-open-spec =

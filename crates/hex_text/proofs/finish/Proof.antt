@@ -1,16 +1,16 @@
 -- `finish`: each return by the tests that led there, over what the callees promise.
 -- Assumes nothing.
-use mathlib.Core.Path.{refl, sym, ap, _∙_}
+use mathlib.Core.Path.{sym, ap, _∙_}
 use borrow.Author.Tests.{eq-eqb, ne-eqb, le-leb, lt-leb}
 use Rattle.base.specs.Outcome.Outcome.{refused}
-use Rattle.hex_text.specs.Stream.{finishAnswer, finishBuffer}
+use Rattle.hex_text.specs.Stream.{finishAnswer}
 use borrow.Author.Needs.{needs}
 use Rattle.hex_text.proofs.finish.Statement.{statement}
 use Rattle.hex_text.proofs.finish.Tie as tie
 
 returns : tie.Need-returns
-unfolding finishAnswer finishBuffer
-returns c = rw (ne-eqb _ _ (c .if1 .taken)) (refl, refl)
+unfolding finishAnswer
+returns c = rw (ne-eqb _ _ (c .if1 .taken))
 
 is-buffer-length-requires : tie.Need-is-buffer-length-requires
 is-buffer-length-requires c κs = search needs
@@ -19,30 +19,27 @@ end-answer-requires : tie.Need-end-answer-requires
 end-answer-requires c κs = search needs
 
 returns-2 : tie.Need-returns-2
-unfolding finishAnswer finishBuffer
-returns-2 c = rw (eq-eqb _ _ (c .before .before .before .before .before .if1 .left), sym (c .before .before .before .before .is-buffer-length .ensures) ∙ c .before .before .before .if2 .taken, eq-eqb _ _ (c .before .if3 .taken)) (c .end-answer .ensures, refl)
+unfolding finishAnswer
+returns-2 c = rw (eq-eqb _ _ (c .before .before .before .before .before .if1 .left), sym (c .before .before .before .before .is-buffer-length .ensures) ∙ c .before .before .before .if2 .taken, eq-eqb _ _ (c .before .if3 .taken)) (c .end-answer .ensures)
 
 long-number-requires : tie.Need-long-number-requires
 long-number-requires c κs = search needs
 
 returns-3 : tie.Need-returns-3
-unfolding finishAnswer finishBuffer
+unfolding finishAnswer
 returns-3 c = let b = sym (c .before .before .before .before .before .is-buffer-length .ensures) ∙ c .before .before .before .before .if2 .taken in
-    rw (eq-eqb _ _ (c .before .before .before .before .before .before .if1 .left), b, ne-eqb _ _ (c .before .before .if3 .left), lt-leb _ _ (c .before .if4 .taken)) (ap refused (rw b at (c .long-number .ensures)), refl)
+    rw (eq-eqb _ _ (c .before .before .before .before .before .before .if1 .left), b, ne-eqb _ _ (c .before .before .if3 .left), lt-leb _ _ (c .before .if4 .taken)) (ap refused (rw b at (c .long-number .ensures)))
 
-read-last-requires : tie.Need-read-last-requires
-read-last-requires c κs = search needs
-
-same-length : tie.Need-same-length
-same-length c = search needs
+check-last-requires : tie.Need-check-last-requires
+check-last-requires c κs = search needs
 
 returns-4 : tie.Need-returns-4
-unfolding finishAnswer finishBuffer
-returns-4 c = rw (eq-eqb _ _ (c .before .before .before .before .before .before .before .before .before .before .if1 .left), sym (c .before .before .before .before .before .before .before .before .before .is-buffer-length .ensures) ∙ c .before .before .before .before .before .before .before .before .if2 .taken, ne-eqb _ _ (c .before .before .before .before .before .before .if3 .left), le-leb _ _ (c .before .before .before .before .before .if4 .left)) (c .before .before .read-last .ensures)
+unfolding finishAnswer
+returns-4 c = rw (eq-eqb _ _ (c .before .before .before .before .before .before .before .if1 .left), sym (c .before .before .before .before .before .before .is-buffer-length .ensures) ∙ c .before .before .before .before .before .if2 .taken, ne-eqb _ _ (c .before .before .before .if3 .left), le-leb _ _ (c .before .before .if4 .left)) (c .check-last .ensures)
 
 returns-5 : tie.Need-returns-5
-unfolding finishAnswer finishBuffer
-returns-5 c = rw (eq-eqb _ _ (c .before .before .if1 .left), sym (c .before .is-buffer-length .ensures) ∙ c .if2 .left) (refl, refl)
+unfolding finishAnswer
+returns-5 c = rw (eq-eqb _ _ (c .before .before .if1 .left), sym (c .before .is-buffer-length .ensures) ∙ c .if2 .left)
 
 pub finish-spec : {M : Type 1} → statement M
 finish-spec =
@@ -54,7 +51,6 @@ finish-spec =
     returns-2
     long-number-requires
     returns-3
-    read-last-requires
-    same-length
+    check-last-requires
     returns-4
     returns-5)

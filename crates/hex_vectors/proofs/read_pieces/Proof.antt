@@ -47,7 +47,7 @@ text-number-requires : tie.Need-text-number-requires Inv-loop μ-loop
 text-number-requires c κs = search needs
 
 same-length : tie.Need-same-length Inv-loop μ-loop
-same-length c = c .before .before .image2 .given ∙ c .before .before .before .before .before .before .loop .inv .1
+same-length c = c .before .before .before .loop .inv .1
 
 returns : tie.Need-returns Inv-loop μ-loop
 returns c = search needs

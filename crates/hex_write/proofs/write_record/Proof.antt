@@ -1,14 +1,14 @@
 -- `write_record`: after j turns the colon and the digits of the first j bytes stand at the front.
 -- Assumes nothing.
 use denote.Ref.{now}
-use mathlib.Core.Path.{_≡_, refl, _∙_}
+use mathlib.Core.Path.{_≡_, refl, ap, _∙_}
 use mathlib.Core.List.{_∷_, _++_}
-use Prim.Native.Nat.{_≤_, _-_, _+_, _*_}
+use Prim.Native.Nat.{_≤_, _-_, _+_, _*_, _/_, _%_}
 use native.Mathlib.Omega.{arith}
 use lib.ListN.{length, drop, set, length-set}
 use lib.Seq.{drop-set-lt}
 use Rattle.base.specs.Lists.{store-next}
-use Rattle.hex_write.specs.ImageText.{digits, recordLine}
+use Rattle.hex_write.specs.ImageText.{hexDigit, digits, recordLine}
 use Rattle.hex_write.specs.ImageTextLaws.{digits-more, length-digits, store-two, store-front}
 use borrow.Author.Needs.{needs}
 use Rattle.hex_write.proofs.write_record.Statement.{statement}
@@ -65,9 +65,11 @@ loop-again c = let a = c .before .before .before .before .before .before .before
     let l = c .before .before .before .before .loop in
     let m = now (a .image) in
     let o = set (now (a .out)) 0 58 in
+    let b = c .before .before .record-byte in
+    let high : b .result / 16 % 16 ≡ b .result / 16 = omega (arith, b .ok) in
     let n : length (58 ∷ digits m (a .k) (l .j)) ≡ l .j * 2 + 1 = omega (arith, length-digits m (a .k) (l .j)) in (
       search needs,
-      rw (l .inv .1, c .before .hex-digit .ensures, c .hex-digit2 .ensures, c .before .before .record-byte .ensures, digits-more)
+      rw (l .inv .1, c .before .hex-digit .ensures ∙ ap hexDigit high, c .hex-digit2 .ensures, b .ensures, digits-more)
           (store-two (58 ∷ digits m (a .k) (l .j)) o (l .j * 2 + 1) (l .j * 2 + 2) ((l .j + 1) * 2 + 1) _ _ n (omega arith) (omega arith)
           (omega (arith, length-set (now (a .out)) 0 58))),
       rw (length-set, length-set) (l .inv .2),

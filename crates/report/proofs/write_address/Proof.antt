@@ -1,7 +1,7 @@
 -- `write_address`: the four digits in turn, and the character behind them.
 -- Assumes nothing.
 use mathlib.Core.Path.{_≡_, refl}
-use Prim.Native.Nat.{suc, _+_}
+use Prim.Native.Nat.{ℕ, suc, _+_, _/_, _%_, _<_}
 use native.Mathlib.Omega.{arith}
 use lib.ListN.{length-set}
 use borrow.Author.Needs.{needs}
@@ -67,6 +67,10 @@ same-length c = search needs
 
 returns : tie.Need-returns
 returns c = let at = c .before .before .before .before .before .args .at in
+    let x = c .before .before .before .before .before .args .x in
+    let b : x < 65536 = search needs in
+    let first : x / 4096 % 16 ≡ x / 4096 = omega arith in
+    let again : (y : ℕ) → y % 16 % 16 ≡ y % 16 = λ y. omega arith in
     let e : at + 1 ≡ suc at = omega arith in
     let f : at + 2 ≡ suc (suc at) = omega arith in
     let g : at + 3 ≡ suc (suc (suc at)) = omega arith in
@@ -74,7 +78,7 @@ returns c = let at = c .before .before .before .before .before .args .at in
     record {
       position = refl;
       contents =
-          rw (e, f, g, h, c .before .before .before .hex-digit .ensures, c .before .before .hex-digit2 .ensures, c .before .hex-digit3 .ensures, c .hex-digit4 .ensures);
+          rw (e, f, g, h, c .before .before .before .hex-digit .ensures, c .before .before .hex-digit2 .ensures, c .before .hex-digit3 .ensures, c .hex-digit4 .ensures, first, again (x / 256), again (x / 16), again x);
     }
 
 pub write-address-spec : {M : Type 1} → statement M
