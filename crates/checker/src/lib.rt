@@ -51,7 +51,7 @@ fn instruction_at(image: &[u8], a: RomAddr) -> Located
 fn cost_at(image: &[u8], a: RomAddr) -> u8
     ensures { λ r. ⌜ r ≡ costAt (now (image .entry)) (a .0) ⌝ }
 {
-    isa::cycles_of(entries::byte_at(image, a.0 as usize))
+    isa::cycles_of(base::byte_at(image, a.0 as usize))
 }
 
 // Which of rules 21 to 27 holds.

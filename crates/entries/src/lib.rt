@@ -1,11 +1,12 @@
 // The certificate's parts and fields. Each read is total: past the end a byte counts as 0, as in the definitions.
 ghost use mathlib.Core.Path.{_≡_};
-ghost use lib.ListN.{getD, take, drop};
+ghost use lib.ListN.{take, drop};
 ghost use Rattle.certificate.specs.Layout.{word, entryPart, cellPart, rowPart, certificateOf};
 ghost use Prim.Native.Nat.{_<_};
 ghost use Rattle.entries.specs.Fields.{claimOf, entryFrom, entryOf, cellOf, rowOf};
 use base::RegAddr;
 use base::RomAddr;
+use base::byte_at;
 
 // That a cell holds low to high; cell FFH is no claim.
 pub struct Claim {
@@ -45,13 +46,6 @@ pub struct RoutineRow {
     pub side: u8,
     pub need: u8,
     pub bound: u16,
-}
-
-// The byte at i, 0 past the end.
-pub fn byte_at(s: &[u8], i: usize) -> u8
-    ensures { λ r. ⌜ r ≡ getD (now (s .entry)) i 0 ⌝ }
-{
-    if i < s.len() { s[i] } else { 0 }
 }
 
 // The number at i, high byte first.

@@ -11,13 +11,14 @@ use mathlib.Core.Bool.{Bool, true, false}
 use Rattle.base.specs.Choice.{pick}
 use Rattle.base.specs.Outcome.{Outcome, onOutcome}
 use Rattle.base.specs.Outcome.Outcome.{value, refused}
-use Rattle.hex_line.specs.Line.{imageLength, bufferLength}
+use Rattle.base.specs.Lengths.{romLength, certificateLength}
+use Rattle.hex_line.specs.Line.{bufferLength}
 use Rattle.hex_text.specs.declared.Stream.{Stream}
 use Rattle.hex_text.specs.Text.{lines, linesAnswer, textAnswer, textBuffer}
 use Rattle.hex_text.specs.Stream.{started, feedStream, feedBuffer, finishAnswer, Leaves}
 use Rattle.hex_text.specs.StreamTheorems.{feed-append, feed-append-buffer, piecesStream, piecesBuffer, wholeOf, stream-reads-text}
 use Rattle.certificate.specs.declared.Verdict.{Verdict}
-use Rattle.certificate.specs.Layout.{certificateLength, certificateOf}
+use Rattle.certificate.specs.Layout.{certificateOf}
 use Rattle.safety.specs.Verdicts.{verdictOf}
 use Rattle.report.specs.Report.{longestReport, reportText, reportAnswer, reportBuffer}
 use Rattle.report.specs.ReportLaws.{report-length}
@@ -78,7 +79,7 @@ read-answer : {o : Outcome (Unit {0})} {m : List ℕ} (n x : ℕ) (p : Reads o (
 read-answer n x p = rw (length-filled n x) at (p .answers)
 
 -- the judgement of what the two files left is that of the two texts: the buffers of refused files do not count
-judges-by : (i c : Outcome (Unit {0})) (s t image cert : List ℕ) → i ≡ textAnswer s imageLength → c ≡ textAnswer t certificateLength
+judges-by : (i c : Outcome (Unit {0})) (s t image cert : List ℕ) → i ≡ textAnswer s romLength → c ≡ textAnswer t certificateLength
     → Leaves i (textBuffer s blankImage) image → Leaves c (textBuffer t blankCertificate) cert
     → reportText (judgement i c (verdictOf image cert)) (certificateOf cert) ≡ printed s t
 unfolding printed
@@ -94,7 +95,7 @@ pub judges : {i c : Outcome (Unit {0})} {image cert : List ℕ} {answer : Outcom
 unfolding reportAnswer reportBuffer
 judges {i} {c} {image} {cert} {answer} {verdict} {out} {after} p q n v a w =
     let e : reportText (judgement i c verdict) (certificateOf cert) ≡ printed (p .text) (q .text) =
-    rw v (judges-by i c (p .text) (q .text) image cert (read-answer imageLength 0xFF p) (read-answer certificateLength 0 q) (p .leaves) (q .leaves)) in
+    rw v (judges-by i c (p .text) (q .text) image cert (read-answer romLength 0xFF p) (read-answer certificateLength 0 q) (p .leaves) (q .leaves)) in
     record {
       image = p .text;
       certificate = q .text;
@@ -114,7 +115,7 @@ unfolding printed
 printed-length s t =
     let cert = textBuffer t blankCertificate in
     report-length
-    (judgement (textAnswer s imageLength) (textAnswer t certificateLength) (verdictOf (textBuffer s blankImage) cert))
+    (judgement (textAnswer s romLength) (textAnswer t certificateLength) (verdictOf (textBuffer s blankImage) cert))
     (certificateOf cert)
 
 pub judges-within : {n : ℕ} {out after : List ℕ} → Judges (value n) out after → n ≤ length out

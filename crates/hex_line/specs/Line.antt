@@ -8,22 +8,16 @@ use lib.Dec.{eqb, leb}
 use Rattle.base.specs.Choice.{pick}
 use Rattle.base.specs.Outcome.{Outcome, andThen, onOutcome}
 use Rattle.base.specs.Outcome.Outcome.{value, refused}
+use Rattle.base.specs.Lengths.{romLength, certificateLength}
 use Rattle.hex_line.specs.Record.{countOf, addressOf, dataOf, parseBody, bodyOf}
 use Rattle.hex_line.specs.declared.Reader.{Reader}
 use Rattle.hex_line.specs.declared.Fields.{Fields}
 use Rattle.hex_line.specs.declared.Fault.{Fault}
 use Rattle.hex_line.specs.declared.Line.{Line}
 
--- the lengths of an image and of a certificate
-abbrev pub imageLength : ℕ
-imageLength = 4096
-
-abbrev pub certificateLength : ℕ
-certificateLength = 58498
-
 -- whether a lent buffer has one of them
 abbrev pub bufferLength : ℕ → Bool
-bufferLength n = pick (eqb n imageLength) true (eqb n certificateLength)
+bufferLength n = pick (eqb n romLength) true (eqb n certificateLength)
 
 -- before the first line
 abbrev pub begun : Reader

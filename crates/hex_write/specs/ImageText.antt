@@ -7,7 +7,7 @@ use lib.Dec.{eqb, ltb}
 use Rattle.base.specs.Choice.{pick}
 use Rattle.base.specs.Outcome.{Outcome, onOutcome}
 use Rattle.base.specs.Outcome.Outcome.{value, refused}
-use Rattle.hex_line.specs.Line.{imageLength}
+use Rattle.base.specs.Lengths.{romLength}
 use Rattle.hex_write.specs.declared.Written.{Written}
 
 -- an upper-case digit
@@ -58,7 +58,7 @@ writtenOutcome Written.WrongLength = refused 7
 
 -- 7: an image of another length, or too short a buffer
 unfoldable pub writeAnswer : ℕ → ℕ → Outcome ℕ
-writeAnswer size room = pick (eqb size imageLength) (pick (ltb room textLength) (refused 7) (value textLength)) (refused 7)
+writeAnswer size room = pick (eqb size romLength) (pick (ltb room textLength) (refused 7) (value textLength)) (refused 7)
 
 -- the buffer behind it: the text at its front, unchanged where it is refused
 unfoldable pub writeBuffer : List ℕ → List ℕ → List ℕ

@@ -13,8 +13,9 @@ use borrow.Author.Tests.{ltb-true, ltb-false, ne-eqb, lt-ltb, le-ltb, le-leb}
 use Rattle.base.specs.Choice.{pick}
 use Rattle.base.specs.Outcome.{Outcome}
 use Rattle.base.specs.Outcome.Outcome.{value, refused}
+use Rattle.base.specs.Lengths.{romLength}
 use Rattle.hex_line.specs.Record.{digitOf, joined, pairAt, sumOf, dataOf, countOf, addressOf, fieldsOf, parseBody, bodyLength, bodyOf}
-use Rattle.hex_line.specs.Line.{imageLength, bufferLength, begun, readLine, stored, lineBuffer}
+use Rattle.hex_line.specs.Line.{bufferLength, begun, readLine, stored, lineBuffer}
 use Rattle.hex_line.specs.LineLaws.{sumOf-more}
 use Rattle.hex_line.specs.declared.Reader.{Reader}
 use Rattle.hex_line.specs.declared.Fields.{Fields}
@@ -314,7 +315,7 @@ module _ (m m₀ : List ℕ) (size : ℕ) (good : bufferLength size ≡ true) (s
       (ih .0 ∙ rw g, ih .1 ∙ rw (n, g, placed m k low byte size good fits m₀ s s₀))
 
 -- the text of an image is read to its end, and leaves the image in the buffer
-pub read-back : (m m₀ : List ℕ) → length m ≡ imageLength → length m₀ ≡ imageLength → ((i : ℕ) → getD m i 0 < 256)
+pub read-back : (m m₀ : List ℕ) → length m ≡ romLength → length m₀ ≡ romLength → ((i : ℕ) → getD m i 0 < 256)
     → (textAnswer (imageText m) (length m₀) ≡ value tt) × (textBuffer (imageText m) m₀ ≡ m)
 unfolding imageText textAnswer textBuffer
 read-back m m₀ s s₀ byte =
@@ -330,9 +331,9 @@ read-back m m₀ s s₀ byte =
 -- where n bytes were written to the front of a buffer, they read back to the image
 abbrev pub ReadsBack : Outcome ℕ → List ℕ → List ℕ → Type 0
 ReadsBack (value n) m out =
-    (m₀ : List ℕ) → length m₀ ≡ imageLength → (textAnswer (take n out) (length m₀) ≡ value tt) × (textBuffer (take n out) m₀ ≡ m)
+    (m₀ : List ℕ) → length m₀ ≡ romLength → (textAnswer (take n out) (length m₀) ≡ value tt) × (textBuffer (take n out) m₀ ≡ m)
 ReadsBack (refused k) m out = Unit {0}
 
-pub reads-back : (m rest : List ℕ) → length m ≡ imageLength → ((i : ℕ) → getD m i 0 < 256)
+pub reads-back : (m rest : List ℕ) → length m ≡ romLength → ((i : ℕ) → getD m i 0 < 256)
     → ReadsBack (value textLength) m (imageText m ++ rest)
 reads-back m rest s byte m₀ s₀ = rw (take-at (imageText m) rest 11276 (length-imageText m)) (read-back m m₀ s s₀ byte)

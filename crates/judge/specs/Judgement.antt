@@ -6,11 +6,11 @@ use mathlib.Core.List.{List}
 use lib.ListN.{replicate}
 use Rattle.base.specs.Addresses.{romAddr}
 use Rattle.base.specs.Outcome.{Outcome, onOutcome}
-use Rattle.hex_line.specs.Line.{imageLength}
+use Rattle.base.specs.Lengths.{romLength, certificateLength}
 use Rattle.hex_text.specs.Text.{textAnswer, textBuffer}
 use Rattle.certificate.specs.declared.Verdict.{Verdict}
 use Rattle.certificate.specs.declared.Verdict.the-variants.{Refused}
-use Rattle.certificate.specs.Layout.{certificateLength, certificateOf}
+use Rattle.certificate.specs.Layout.{certificateOf}
 use Rattle.safety.specs.Verdicts.{verdictOf}
 use Rattle.report.specs.Report.{reportText}
 
@@ -26,7 +26,7 @@ unfoldable pub filled : ℕ → ℕ → List ℕ
 filled n x = replicate n x
 
 abbrev pub blankImage : List ℕ
-blankImage = filled imageLength 0xFF
+blankImage = filled romLength 0xFF
 
 abbrev pub blankCertificate : List ℕ
 blankCertificate = filled certificateLength 0
@@ -36,5 +36,5 @@ unfoldable pub printed : List ℕ → List ℕ → List ℕ
 printed image certificate =
     let cert = textBuffer certificate blankCertificate in
     reportText
-    (judgement (textAnswer image imageLength) (textAnswer certificate certificateLength) (verdictOf (textBuffer image blankImage) cert))
+    (judgement (textAnswer image romLength) (textAnswer certificate certificateLength) (verdictOf (textBuffer image blankImage) cert))
     (certificateOf cert)

@@ -45,7 +45,7 @@ fn read_times(text: &[u8; 11276], buffer: &mut [u8; 4096], count: u64) -> u64 {
 // The text as a piece of a file.
 fn stream(text: &[u8], buffer: &mut [u8]) -> u64 {
     let s = hex_text::feed(hex_text::start(), text, buffer);
-    answer_of(hex_text::finish(s, buffer))
+    answer_of(hex_text::finish(s, buffer.len()))
 }
 
 fn stream_times(text: &[u8; 11276], buffer: &mut [u8; 4096], count: u64) -> u64 {

@@ -205,7 +205,7 @@ fn service_rule(image: &[u8], cert: &[u8]) -> bool
     ensures { λ r. ⌜ r ≡ decide (serviceRule (certificateOf (now (cert .entry))) (now (image .entry))) ⌝ }
 {
     let row = entries::routine_row(cert, 2);
-    let vector = entries::byte_at(image, 0) as u16 * 256 + entries::byte_at(image, 1) as u16;
+    let vector = base::byte_at(image, 0) as u16 * 256 + base::byte_at(image, 1) as u16;
     (row.start.0 == vector) & (row.side == 2) & bare_rule(cert, row.start)
 }
 
