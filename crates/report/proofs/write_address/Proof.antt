@@ -1,9 +1,10 @@
 -- `write_address`: the four digits in turn, and the character behind them.
 -- Assumes nothing.
-use mathlib.Core.Path.{_≡_, refl}
+use mathlib.Core.Path.{_≡_, refl, ap, _∙_}
 use Prim.Native.Nat.{ℕ, suc, _+_, _/_, _%_, _<_}
 use native.Mathlib.Omega.{arith}
 use lib.ListN.{length-set}
+use Rattle.hex_write.specs.ImageText.{hexDigit}
 use borrow.Author.Needs.{needs}
 use Rattle.report.proofs.write_address.Statement.{statement}
 use Rattle.report.proofs.write_address.Tie as tie
@@ -78,7 +79,7 @@ returns c = let at = c .before .before .before .before .before .args .at in
     record {
       position = refl;
       contents =
-          rw (e, f, g, h, c .before .before .before .hex-digit .ensures, c .before .before .hex-digit2 .ensures, c .before .hex-digit3 .ensures, c .hex-digit4 .ensures, first, again (x / 256), again (x / 16), again x);
+          rw (e, f, g, h, c .before .before .before .hex-digit .ensures ∙ ap hexDigit first, c .before .before .hex-digit2 .ensures ∙ ap hexDigit (again (x / 256)), c .before .hex-digit3 .ensures ∙ ap hexDigit (again (x / 16)), c .hex-digit4 .ensures ∙ ap hexDigit (again x));
     }
 
 pub write-address-spec : {M : Type 1} → statement M
