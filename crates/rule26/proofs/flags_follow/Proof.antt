@@ -31,7 +31,7 @@ returns : tie.Need-returns
 returns c = simp (c .before .before .unchanged-by .ensures, c .before .before .before .before .before .enum-told .given .1, c .before .before .before .before .before .before .before .entry-of2 .ensures, c .before .before .before .before .before .before .before .before .entry-part2 .ensures .1, c .before .before .before .before .before .before .before .before .before .entry-of .ensures, c .before .before .before .before .before .before .before .before .before .before .entry-part .ensures .1, and-assoc, or-assoc, Bool·not-not)
 
 returns-2 : tie.Need-returns-2
-returns-2 c = simp (c .enum-told2 .given .1, c .before .before .entry-of2 .ensures, c .before .before .before .entry-part2 .ensures .1, c .before .before .before .before .entry-of .ensures, c .before .before .before .before .before .entry-part .ensures .1, and-assoc, or-assoc, Bool·not-not)
+returns-2 c = simp (c .enum-told2 .given .1)
 
 returns-3 : tie.Need-returns-3
 returns-3 c = simp (c .before .before .before .before .f .given .1, c .before .before .before .before .before .before .entry-of2 .ensures, c .before .before .before .before .before .before .before .entry-part2 .ensures .1, c .before .before .before .before .before .before .before .before .entry-of .ensures, c .before .before .before .before .before .before .before .before .before .entry-part .ensures .1, and-assoc, or-assoc, Bool·not-not)

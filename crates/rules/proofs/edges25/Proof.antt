@@ -49,16 +49,16 @@ returns : tie.Need-returns
 returns c = simp (c .before .before .entry-of3 .ensures, c .before .before .before .entry-part3 .ensures .1, c .before .before .before .before .before .f .given .1, c .before .before .before .before .before .before .before .entry-of2 .ensures, c .before .before .before .before .before .before .before .before .entry-part2 .ensures .1, c .before .before .before .before .before .before .before .before .before .depth-after .ensures, c .before .before .before .before .before .before .before .before .before .before .entry-of .ensures, c .before .before .before .before .before .before .before .before .before .before .before .entry-part .ensures .1, and-assoc, or-assoc, Bool·not-not)
 
 returns-2 : tie.Need-returns-2
-returns-2 c = simp (c .enum-told .given .1, c .before .before .entry-of2 .ensures, c .before .before .before .entry-part2 .ensures .1, c .before .before .before .before .depth-after .ensures, c .before .before .before .before .before .entry-of .ensures, c .before .before .before .before .before .before .entry-part .ensures .1, and-assoc, or-assoc, Bool·not-not)
+returns-2 c = simp (c .enum-told .given .1)
 
 returns-3 : tie.Need-returns-3
-returns-3 c = simp (c .enum-told2 .given .1, c .before .before .entry-of2 .ensures, c .before .before .before .entry-part2 .ensures .1, c .before .before .before .before .depth-after .ensures, c .before .before .before .before .before .entry-of .ensures, c .before .before .before .before .before .before .entry-part .ensures .1, and-assoc, or-assoc, Bool·not-not)
+returns-3 c = simp (c .enum-told2 .given .1)
 
 returns-4 : tie.Need-returns-4
-returns-4 c = simp (c .enum-told3 .given .1, c .before .before .entry-of2 .ensures, c .before .before .before .entry-part2 .ensures .1, c .before .before .before .before .depth-after .ensures, c .before .before .before .before .before .entry-of .ensures, c .before .before .before .before .before .before .entry-part .ensures .1, and-assoc, or-assoc, Bool·not-not)
+returns-4 c = simp (c .enum-told3 .given .1)
 
 returns-5 : tie.Need-returns-5
-returns-5 c = simp (c .enum-told4 .given .1, c .before .before .entry-of2 .ensures, c .before .before .before .entry-part2 .ensures .1, c .before .before .before .before .depth-after .ensures, c .before .before .before .before .before .entry-of .ensures, c .before .before .before .before .before .before .entry-part .ensures .1, and-assoc, or-assoc, Bool·not-not)
+returns-5 c = simp (c .enum-told4 .given .1)
 
 pub edges25-spec : {M : Type 1} → statement M
 edges25-spec =

@@ -25,10 +25,10 @@ enum-told-5 : tie.Need-enum-told-5
 enum-told-5 c = search needs
 
 returns : tie.Need-returns
-returns c = simp (c .enum-told .given .1, c .before .before .entry-of .ensures, c .before .before .before .entry-part .ensures .1, and-assoc, or-assoc, Bool·not-not)
+returns c = simp (c .enum-told .given .1)
 
 returns-2 : tie.Need-returns-2
-returns-2 c = simp (c .enum-told2 .given .1, c .before .before .entry-of .ensures, c .before .before .before .entry-part .ensures .1, and-assoc, or-assoc, Bool·not-not)
+returns-2 c = simp (c .enum-told2 .given .1)
 
 returns-3 : tie.Need-returns-3
 returns-3 c = simp (c .before .before .enum-told3 .given .1, c .before .before .before .before .entry-of .ensures, c .before .before .before .before .before .entry-part .ensures .1, and-assoc, or-assoc, Bool·not-not)
@@ -37,7 +37,7 @@ returns-4 : tie.Need-returns-4
 returns-4 c = simp (c .before .enum-told4 .given .1, c .before .before .before .entry-of .ensures, c .before .before .before .before .entry-part .ensures .1, and-assoc, or-assoc, Bool·not-not)
 
 returns-5 : tie.Need-returns-5
-returns-5 c = simp (c .enum-told5 .given .1, c .before .before .entry-of .ensures, c .before .before .before .entry-part .ensures .1, and-assoc, or-assoc, Bool·not-not)
+returns-5 c = simp (c .enum-told5 .given .1)
 
 pub flow-allowed-spec : {M : Type 1} → statement M
 flow-allowed-spec =

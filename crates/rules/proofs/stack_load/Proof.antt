@@ -25,13 +25,13 @@ stack-top-requires : tie.Need-stack-top-requires
 stack-top-requires c κs = search needs
 
 returns : tie.Need-returns
-returns c = simp (c .enum-told .given .1, c .before .before .entry-of .ensures, c .before .before .before .entry-part .ensures .1, and-assoc, or-assoc, Bool·not-not)
+returns c = simp (c .enum-told .given .1)
 
 returns-2 : tie.Need-returns-2
-returns-2 c = simp (c .enum-told2 .given .1, c .before .before .entry-of .ensures, c .before .before .before .entry-part .ensures .1, and-assoc, or-assoc, Bool·not-not)
+returns-2 c = simp (c .enum-told2 .given .1)
 
 returns-3 : tie.Need-returns-3
-returns-3 c = simp (c .enum-told3 .given .1, c .before .before .entry-of .ensures, c .before .before .before .entry-part .ensures .1, and-assoc, or-assoc, Bool·not-not)
+returns-3 c = simp (c .enum-told3 .given .1)
 
 returns-4 : tie.Need-returns-4
 returns-4 c = simp (c .stack-top .ensures, c .before .before .before .k .given .1, c .before .before .before .before .before .entry-of .ensures, c .before .before .before .before .before .before .entry-part .ensures .1, and-assoc, or-assoc, Bool·not-not)

@@ -34,7 +34,7 @@ enum-told-4 : tie.Need-enum-told-4
 enum-told-4 c = search needs
 
 returns : tie.Need-returns
-returns c = simp (c .enum-told .given .1, c .before .before .routine-row .ensures, c .before .before .before .entry-of .ensures, c .before .before .before .before .entry-part .ensures .1, and-assoc, or-assoc, Bool·not-not)
+returns c = simp (c .enum-told .given .1)
 
 returns-2 : tie.Need-returns-2
 returns-2 c = simp (c .before .before .before .enum-told2 .given .1, c .before .before .before .before .before .routine-row .ensures, c .before .before .before .before .before .before .entry-of .ensures, c .before .before .before .before .before .before .before .entry-part .ensures .1, and-assoc, or-assoc, Bool·not-not)
@@ -43,7 +43,7 @@ returns-3 : tie.Need-returns-3
 returns-3 c = simp (c .before .before .enum-told3 .given .1, c .before .before .before .before .routine-row .ensures, c .before .before .before .before .before .entry-of .ensures, c .before .before .before .before .before .before .entry-part .ensures .1, and-assoc, or-assoc, Bool·not-not)
 
 returns-4 : tie.Need-returns-4
-returns-4 c = simp (c .enum-told4 .given .1, c .before .before .routine-row .ensures, c .before .before .before .entry-of .ensures, c .before .before .before .before .entry-part .ensures .1, and-assoc, or-assoc, Bool·not-not)
+returns-4 c = simp (c .enum-told4 .given .1)
 
 pub stack-rule-spec : {M : Type 1} → statement M
 stack-rule-spec =
