@@ -42,7 +42,7 @@ fn read_times(text: &[u8; 11276], buffer: &mut [u8; 4096], count: u64) -> u64 {
     answer
 }
 
-// The text as a piece of a file.
+// The text as one piece of a file.
 fn stream(text: &[u8], buffer: &mut [u8]) -> u64 {
     let s = hex_text::feed(hex_text::start(), text, buffer);
     answer_of(hex_text::finish(s, buffer.len()))
@@ -91,7 +91,7 @@ fn tell(what: u8, answer: u64, same: bool) {
     }
 }
 
-// 4 reads a whole text 2,000 times, 5 reads it in pieces as often, 6 writes it 20,000 times.
+// 4 reads a whole text 2,000 times, 5 reads it by feed and finish as often, 6 writes it 20,000 times.
 pub fn work(what: u8) {
     let image = image();
     let mut text = [0u8; TEXT];
