@@ -2,10 +2,10 @@
 -- Assumes nothing.
 use Prim.Native.Nat.{ℕ, _+_, _%_}
 use mathlib.Core.Bool.{Bool, true, false}
-use lib.Dec.{eqb, ltb}
+use lib.Dec.{eqb}
 use Rattle.base.specs.declared.RegAddr.{RegAddr}
 use Rattle.base.specs.declared.RomAddr.{RomAddr}
-use Rattle.base.specs.Addresses.{regAddr, romAddr}
+use Rattle.base.specs.Addresses.{regAddr, romAddr, displaced}
 use Rattle.base.specs.Choice.{pick}
 use Rattle.isa.specs.declared.Unary.the-variants.{Inc}
 use Rattle.isa.specs.declared.Implied.{Implied}
@@ -30,10 +30,6 @@ atWork r x = Indirect (workOf r) x
 
 abbrev at : RegAddr → Operand
 at a = Indirect a 0
-
--- a word with an offset of -128 to 127, modulo 65536
-abbrev pub displaced : ℕ → ℕ → ℕ
-displaced w x = pick (ltb x 128) ((w + x) % 65536) ((w + (65280 + x)) % 65536)
 
 -- an odd pair means LDE
 abbrev pub loadCode : ℕ → ℕ → CodeAddress → Action

@@ -1,6 +1,6 @@
 // What an instruction does, by the shape of its operands: the machine and the checker work on these kinds and not on 198 codes.
 ghost use mathlib.Core.Path.{_≡_};
-ghost use Rattle.action.specs.Action.{workOf, displaced, loadCode, loadCodeStep, loadCodeDirect, impliedAction, actionOf};
+ghost use Rattle.action.specs.Action.{workOf, loadCode, loadCodeStep, loadCodeDirect, impliedAction, actionOf};
 use crate::Action::Binary;
 use crate::Action::Load;
 use crate::Action::Modify;
@@ -11,6 +11,7 @@ use crate::Operand::Indirect;
 use crate::Operand::Register;
 use base::RegAddr;
 use base::RomAddr;
+use base::displaced;
 use isa::Alu;
 use isa::Implied;
 use isa::Instruction;
@@ -71,16 +72,6 @@ fn work(r: u8) -> RegAddr
     ensures { λ a. ⌜ a ≡ workOf r ⌝ }
 {
     RegAddr(192 + r % 16)
-}
-
-// The word with an offset of -128 to 127.
-pub fn displaced(w: u16, x: u8) -> u16
-    ensures { λ r. ⌜ r ≡ displaced w x ⌝ }
-{
-    if x < 128 {
-        return std::num::wrapping_add_u16(w, x as u16);
-    }
-    std::num::wrapping_add_u16(w, 65280 + x as u16)
 }
 
 // LDC; LDE where the pair is odd.

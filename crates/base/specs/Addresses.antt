@@ -1,6 +1,8 @@
--- A number as an address of the register file, or of program memory.
+-- A number as an address of the register file, or of program memory; an address with an offset.
 -- Assumes nothing.
-use Prim.Native.Nat.{ℕ}
+use Prim.Native.Nat.{ℕ, _+_, _%_}
+use lib.Dec.{ltb}
+use Rattle.base.specs.Choice.{pick}
 use Rattle.base.specs.declared.RegAddr.{RegAddr}
 use Rattle.base.specs.declared.RomAddr.{RomAddr}
 
@@ -9,3 +11,7 @@ regAddr a = record { 0 = a }
 
 abbrev pub romAddr : ℕ → RomAddr
 romAddr a = record { 0 = a }
+
+-- a word with an offset of -128 to 127, modulo 65536
+abbrev pub displaced : ℕ → ℕ → ℕ
+displaced w x = pick (ltb x 128) ((w + x) % 65536) ((w + (65280 + x)) % 65536)

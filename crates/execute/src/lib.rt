@@ -260,7 +260,7 @@ fn code_address(from: CodeAddress, regs: &[u8; 256], rec: &[u8; 8]) -> u16
 {
     match from {
         CodeAddress::Direct(a) => a.0,
-        CodeAddress::Short(p, x) => action::displaced(word_at(regs, rec, p), x),
+        CodeAddress::Short(p, x) => base::displaced(word_at(regs, rec, p), x),
         CodeAddress::Long(p, x) => std::num::wrapping_add_u16(word_at(regs, rec, p), x),
     }
 }

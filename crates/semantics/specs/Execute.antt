@@ -8,7 +8,7 @@ use lib.ListN.{length, getD}
 use lib.Dec.{eqb, ltb}
 use Rattle.base.specs.declared.RegAddr.{RegAddr}
 use Rattle.base.specs.declared.RomAddr.{RomAddr}
-use Rattle.base.specs.Addresses.{romAddr}
+use Rattle.base.specs.Addresses.{romAddr, displaced}
 use Rattle.base.specs.Choice.{pick}
 use Rattle.isa.specs.declared.Alu.{Alu}
 use Rattle.isa.specs.declared.Unary.{Unary}
@@ -23,7 +23,6 @@ use Rattle.action.specs.declared.CodeAddress.the-variants.{Direct, Short, Long}
 use Rattle.action.specs.declared.CarryChange.{CarryChange}
 use Rattle.action.specs.declared.CarryChange.the-variants.{Reset, Set, Complement}
 use Rattle.action.specs.declared.Action.{Action}
-use Rattle.action.specs.Action.{displaced}
 use Rattle.semantics.specs.declared.Mode.{Mode}
 use Rattle.semantics.specs.declared.Mode.the-variants.{Running, Idle, Stopped}
 use Rattle.semantics.specs.declared.Next.{Next}

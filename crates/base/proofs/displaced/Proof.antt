@@ -1,7 +1,7 @@
 use borrow.Author.Tests.{lt-ltb, le-ltb}
 use borrow.Author.Needs.{needs}
-use Rattle.action.proofs.displaced.Statement.{statement}
-use Rattle.action.proofs.displaced.Tie as tie
+use Rattle.base.proofs.displaced.Statement.{statement}
+use Rattle.base.proofs.displaced.Tie as tie
 
 wrapping-add-u16-requires : tie.Need-wrapping-add-u16-requires
 wrapping-add-u16-requires c κs = search needs
