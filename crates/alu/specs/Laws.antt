@@ -19,7 +19,7 @@ use Rattle.isa.specs.declared.Unary.the-variants.{Dec, Rlc, Inc, Com, Rl, Clr, 
 use Rattle.alu.specs.declared.FlagUpdate.{FlagUpdate}
 use Rattle.alu.specs.declared.FlagUpdate.the-variants.{Unchanged, Carry, Result, CarryResult}
 use Rattle.alu.specs.Flags.{carry, zeroFlag, signFlag, overflowFlag, flagsByte, update, conditionOn, condition}
-use Rattle.alu.specs.Operations.{operate, addition, subtraction, logical, offset, overflows, modify, increment, decrement, rotation, shiftRight, compareFlags}
+use Rattle.alu.specs.Operations.{operate, addition, subtraction, logical, biased, overflows, modify, increment, decrement, rotation, shiftRight, compareFlags}
 
 -- a test of four flags that holds at all 16 settings, which antt computes, holds at each
 abbrev both : (Bool → Bool) → Bool
@@ -275,12 +275,12 @@ unfolding modify
 clear-value x c = refl
 
 -- V of INC and DEC, which their pages give by value, is the overflow of x + 1 and x - 1
-pub increment-overflow : (x : ℕ) → x < 256 → eqb x 127 ≡ overflows (offset x + offset 1)
-unfolding offset overflows
+pub increment-overflow : (x : ℕ) → x < 256 → eqb x 127 ≡ overflows (biased x + biased 1)
+unfolding biased overflows
 increment-overflow x h =
-    same-bool _ _ (sound (forallBelow 256 (λ x. test (Bool·beq (eqb x 127) (overflows (offset x + offset 1))))) tt x h)
+    same-bool _ _ (sound (forallBelow 256 (λ x. test (Bool·beq (eqb x 127) (overflows (biased x + biased 1))))) tt x h)
 
-pub decrement-overflow : (x : ℕ) → x < 256 → eqb x 128 ≡ overflows (offset x + 256 - offset 1)
-unfolding offset overflows
+pub decrement-overflow : (x : ℕ) → x < 256 → eqb x 128 ≡ overflows (biased x + 256 - biased 1)
+unfolding biased overflows
 decrement-overflow x h =
-    same-bool _ _ (sound (forallBelow 256 (λ x. test (Bool·beq (eqb x 128) (overflows (offset x + 256 - offset 1))))) tt x h)
+    same-bool _ _ (sound (forallBelow 256 (λ x. test (Bool·beq (eqb x 128) (overflows (biased x + 256 - biased 1))))) tt x h)

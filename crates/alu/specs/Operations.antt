@@ -22,24 +22,24 @@ abbrev pub isNegative : ℕ → Bool
 isNegative value = leb 128 value
 
 -- the signed value of a byte, plus 128: -128 (80H) is 0, -1 (FFH) is 127, 0 is 128, 127 (7FH) is 255
-unfoldable pub offset : ℕ → ℕ
-offset x = (x + 128) % 256
+unfoldable pub biased : ℕ → ℕ
+biased x = (x + 128) % 256
 
 -- a signed result, plus 256, leaves -128 to 127
 unfoldable pub overflows : ℕ → Bool
 overflows n = ltb n 128 || leb 384 n
 
--- x + y + k; C is the carry out of bit 7. V by the signed values: offset x + offset y + k is their sum plus 256.
+-- x + y + k; C is the carry out of bit 7. V by the signed values: biased x + biased y + k is their sum plus 256.
 unfoldable pub addition : ℕ → ℕ → ℕ → Computed
 addition x y k =
     let value = (x + y + k) % 256 in
-    record { value = value; flags = CarryResult (leb 256 (x + y + k)) (isZero value) (isNegative value) (overflows (offset x + offset y + k)) }
+    record { value = value; flags = CarryResult (leb 256 (x + y + k)) (isZero value) (isNegative value) (overflows (biased x + biased y + k)) }
 
--- x - y - k modulo 256 (512 keeps it a number); C is the borrow. V by the signed values: offset x + 256 - (offset y + k) is their difference plus 256.
+-- x - y - k modulo 256 (512 keeps it a number); C is the borrow. V by the signed values: biased x + 256 - (biased y + k) is their difference plus 256.
 unfoldable pub subtraction : ℕ → ℕ → ℕ → Computed
 subtraction x y k =
     let value = (x + 512 - (y + k)) % 256 in
-    record { value = value; flags = CarryResult (ltb x (y + k)) (isZero value) (isNegative value) (overflows (offset x + 256 - (offset y + k))) }
+    record { value = value; flags = CarryResult (ltb x (y + k)) (isZero value) (isNegative value) (overflows (biased x + 256 - (biased y + k))) }
 
 -- a logical operation's result (pages AND, OR, XOR, TM, TCM, COM): V is 0, C is not named
 unfoldable pub logical : ℕ → Computed

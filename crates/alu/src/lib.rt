@@ -3,7 +3,7 @@ ghost use mathlib.Core.Path.{_≡_};
 ghost use Prim.Native.Nat.{_<_, _≤_, _%_, _*_};
 ghost use Rattle.base.specs.Choice.{pick};
 ghost use Rattle.alu.specs.Flags.{carry, zeroFlag, signFlag, overflowFlag, flagsByte, update, resetCarry, setCarry, complementCarry, conditionOn, condition};
-ghost use Rattle.alu.specs.Operations.{offset, overflows, addition, subtraction, logical, operate, stores, increment, decrement, rotation, shiftRight, modify};
+ghost use Rattle.alu.specs.Operations.{biased, overflows, addition, subtraction, logical, operate, stores, increment, decrement, rotation, shiftRight, modify};
 use isa::Alu;
 use isa::Unary;
 
@@ -138,8 +138,8 @@ pub fn condition(cc: u8, flags: u8) -> bool
 }
 
 // The signed value of a byte, plus 128.
-fn offset(x: u8) -> u16
-    ensures value { λ r. ⌜ r ≡ offset x ⌝ }
+fn biased(x: u8) -> u16
+    ensures value { λ r. ⌜ r ≡ biased x ⌝ }
     ensures bounded { λ r. ⌜ r < 256 ⌝ }
 {
     std::num::wrapping_add_u8(x, 128) as u16
@@ -160,7 +160,7 @@ fn addition(x: u8, y: u8, k: u8) -> Computed
     let part = std::num::wrapping_add_u8(x, y);
     let value = std::num::wrapping_add_u8(part, k);
     let c = 256 <= (x as u16) + (y as u16) + (k as u16);
-    let v = overflows(offset(x) + offset(y) + (k as u16));
+    let v = overflows(biased(x) + biased(y) + (k as u16));
     Computed {
         value: value,
         flags: FlagUpdate::CarryResult(c, value == 0, 128 <= value, v),
@@ -175,7 +175,7 @@ fn subtraction(x: u8, y: u8, k: u8) -> Computed
     let part = std::num::wrapping_sub_u8(x, y);
     let value = std::num::wrapping_sub_u8(part, k);
     let c = (x as u16) < (y as u16) + (k as u16);
-    let v = overflows(offset(x) + 256 - (offset(y) + (k as u16)));
+    let v = overflows(biased(x) + 256 - (biased(y) + (k as u16)));
     Computed {
         value: value,
         flags: FlagUpdate::CarryResult(c, value == 0, 128 <= value, v),

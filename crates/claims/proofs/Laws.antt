@@ -7,7 +7,6 @@ use native.Mathlib.Nat.{mul-le-mul}
 use native.Mathlib.Omega.{arith}
 use Rattle.base.specs.Choice.{pick}
 use Rattle.certificate.specs.declared.NewValue.{NewValue}
-use Rattle.certificate.specs.Layout.{Certificate}
 use Rattle.safety.specs.Rules as rules
 use Rattle.claims.specs.declared.Change.{Change}
 use Rattle.claims.specs.declared.Change.the-variants.{Unchanged, Changed}
@@ -19,7 +18,7 @@ product m d h k =
     let q : d ≤ 255 = omega arith in
     omega (arith, mul-le-mul p q)
 
-pub change-pick : (C : Certificate) (b : Bool) (v : NewValue)
-    → changeIn C (pick b (Changed v) Unchanged) ≡ pick b (rules.Change.changed v) rules.Change.unchanged
-change-pick C true v = refl
-change-pick C false v = refl
+pub change-pick : (b : Bool) (v : NewValue)
+    → changeIn (pick b (Changed v) Unchanged) ≡ pick b (rules.Change.changed v) rules.Change.unchanged
+change-pick true v = refl
+change-pick false v = refl

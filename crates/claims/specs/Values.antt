@@ -64,9 +64,9 @@ module _ (C : Certificate) (a : ℕ) (e : rules.Edge) (x v : ℕ) where
 unfoldable pub feasibleFor : Certificate → ℕ → rules.Edge → ℕ → Formula
 feasibleFor C a e x = claimed C a x ⇒ neg (forallBelow 256 (λ v. neg (left C a e x v)))
 
-abbrev pub changeIn : (C : Certificate) → Change → rules.Change
-changeIn C Unchanged = rules.Change.unchanged
-changeIn C (Changed v) = rules.Change.changed v
+abbrev pub changeIn : Change → rules.Change
+changeIn Unchanged = rules.Change.unchanged
+changeIn (Changed v) = rules.Change.changed v
 
 -- x is among the addresses that the claim of pointer p, plus offset o, reaches
 abbrev pub pointedAt : Certificate → ℕ → ℕ → ℕ → ℕ → Bool

@@ -37,7 +37,7 @@ pub enum Change {
     Changed(NewValue),
 }
 
-// The range of a cell at an address: its claim's, unclaimed 0 to 255.
+// The range of a cell at an address: its claim's, else 0 to 255 (asked of mapped cells alone: none is FFH).
 fn low_in(e: Entry, x: RegAddr) -> u8
     ensures { λ r. ⌜ r ≡ lowIn e (x .0) ⌝ }
 {
@@ -231,7 +231,7 @@ fn pointed_at(cert: &[u8], a: RomAddr, p: RegAddr, o: u8, x: RegAddr) -> bool
 
 // What a write at a may leave in cell x.
 pub fn change_of(cert: &[u8], a: RomAddr, w: Write, x: RegAddr) -> Change
-    ensures { λ r. ⌜ changeIn (certificateOf (now (cert .entry))) r ≡ changeOf (certificateOf (now (cert .entry))) (a .0) w (x .0) ⌝ }
+    ensures { λ r. ⌜ changeIn r ≡ changeOf (certificateOf (now (cert .entry))) (a .0) w (x .0) ⌝ }
 {
     match w {
         Write::Nothing => Change::Unchanged,

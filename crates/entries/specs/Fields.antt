@@ -40,8 +40,8 @@ entryOf C a = record {
   compare = record { cell = regAddr (C .compareCell a); number = C .compareNumber a };
 }
 
-abbrev pub cellOf : Certificate → ℕ → CellRow
-cellOf C x = record { class = C .class x; limit = C .limit x; table = C .table x }
+abbrev pub cellRowOf : Certificate → ℕ → CellRow
+cellRowOf C x = record { class = C .class x; limit = C .limit x; table = C .table x }
 
 abbrev pub rowOf : Certificate → ℕ → RoutineRow
 rowOf C n = record { start = romAddr (C .start n); side = C .side n; need = C .need n; bound = C .bound n }

@@ -3,7 +3,7 @@ ghost use mathlib.Core.Path.{_≡_};
 ghost use lib.ListN.{take, drop};
 ghost use Rattle.certificate.specs.Layout.{word, entryPart, cellPart, rowPart, certificateOf};
 ghost use Prim.Native.Nat.{_<_};
-ghost use Rattle.entries.specs.Fields.{claimOf, entryFrom, entryOf, cellOf, rowOf};
+ghost use Rattle.entries.specs.Fields.{claimOf, entryFrom, entryOf, cellRowOf, rowOf};
 use base::RegAddr;
 use base::RomAddr;
 use base::byte_at;
@@ -132,7 +132,7 @@ fn claim_at(e: &[u8], i: usize) -> Claim
 
 // The row of a register, field by field.
 pub fn cell_row(cert: &[u8], x: RegAddr) -> CellRow
-    ensures { λ r. ⌜ r ≡ cellOf (certificateOf (now (cert .entry))) (x .0) ⌝ }
+    ensures { λ r. ⌜ r ≡ cellRowOf (certificateOf (now (cert .entry))) (x .0) ⌝ }
 {
     let b = cell_part(cert, x);
     CellRow {

@@ -16,14 +16,14 @@ use Rattle.hex_text.specs.declared.Stream.{Stream}
 use Rattle.hex_text.specs.Stream.{streamOf, longNumber, pushStream, pushBuffer, feedStream, feedBuffer}
 
 -- the characters from a position on make of a stream and a buffer what the whole piece makes of the first ones
-pub record Fed (n : ℕ) (s₀ : Stream) (t m₀ : List ℕ) (s : Stream) (at : ℕ) (m : List ℕ) : Type 0 where
+pub record FedUpTo (n : ℕ) (s₀ : Stream) (t m₀ : List ℕ) (s : Stream) (at : ℕ) (m : List ℕ) : Type 0 where
   pub stream : feedStream n s₀ t ≡ feedStream n s (drop at t)
   pub buffer : feedBuffer s₀ t m₀ ≡ feedBuffer s (drop at t) m
 
 -- one character more
 pub fed-one : {n : ℕ} {s₀ : Stream} {t m₀ : List ℕ} {s : Stream} {at : ℕ} {m : List ℕ} {s₁ : Stream} {m₁ : List ℕ}
-    → Fed n s₀ t m₀ s at m → at < length t → length m ≡ n → pushStream n s (getD t at 0) ≡ s₁ → pushBuffer s (getD t at 0) m ≡ m₁
-    → Fed n s₀ t m₀ s₁ (at + 1) m₁
+    → FedUpTo n s₀ t m₀ s at m → at < length t → length m ≡ n → pushStream n s (getD t at 0) ≡ s₁ → pushBuffer s (getD t at 0) m ≡ m₁
+    → FedUpTo n s₀ t m₀ s₁ (at + 1) m₁
 unfolding feedStream feedBuffer
 fed-one {n} {s₀} {t} {m₀} {s} {at} {m} f h e p q =
     let w = drop-cons t at 0 h in
@@ -34,7 +34,7 @@ fed-one {n} {s₀} {t} {m₀} {s} {at} {m} f h e p q =
     record { stream = f .stream ∙ (stream-one ∙ rw p); buffer = f .buffer ∙ (buffer-one ∙ rw (e, p, q)) }
 
 -- no character is left
-pub fed-all : {n : ℕ} {s₀ : Stream} {t m₀ : List ℕ} {s : Stream} {at : ℕ} {m : List ℕ} → Fed n s₀ t m₀ s at m → length t ≤ at
+pub fed-all : {n : ℕ} {s₀ : Stream} {t m₀ : List ℕ} {s : Stream} {at : ℕ} {m : List ℕ} → FedUpTo n s₀ t m₀ s at m → length t ≤ at
     → (s ≡ feedStream n s₀ t) × (m ≡ feedBuffer s₀ t m₀)
 unfolding feedStream feedBuffer
 fed-all {t = t} f h =
@@ -56,7 +56,7 @@ feed-refused-buffer s (c ∷ t) m h =
     let z : s .number ≡ 0 → ⊥ = omega arith in
     rw (ne-eqb (s .number) 0 z) (feed-refused-buffer s t m h)
 
-pub fed-refused : {n : ℕ} {s₀ : Stream} {t m₀ : List ℕ} {s : Stream} {at : ℕ} {m : List ℕ} → Fed n s₀ t m₀ s at m → 0 < s .number
+pub fed-refused : {n : ℕ} {s₀ : Stream} {t m₀ : List ℕ} {s : Stream} {at : ℕ} {m : List ℕ} → FedUpTo n s₀ t m₀ s at m → 0 < s .number
     → (s ≡ feedStream n s₀ t) × (m ≡ feedBuffer s₀ t m₀)
 fed-refused {n} {s₀} {t} {m₀} {s} {at} {m} f h =
     (sym (f .stream ∙ feed-refused n s (drop at t) h), sym (f .buffer ∙ feed-refused-buffer s (drop at t) m h))

@@ -54,7 +54,7 @@ fn value_follows(cert: &[u8], a: RomAddr, v: NewValue, k: Claim) -> bool
 }
 
 fn change_follows(cert: &[u8], a: RomAddr, e: Edge, c: Change, k: Claim) -> bool
-    ensures { λ r. ⌜ r ≡ decide (follows (certificateOf (now (cert .entry))) (a .0) (edgeOf e) (changeIn (certificateOf (now (cert .entry))) c) (k .cell .0) (k .low) (k .high)) ⌝ }
+    ensures { λ r. ⌜ r ≡ decide (follows (certificateOf (now (cert .entry))) (a .0) (edgeOf e) (changeIn c) (k .cell .0) (k .low) (k .high)) ⌝ }
 {
     match c {
         Change::Unchanged => {

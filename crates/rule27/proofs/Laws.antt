@@ -44,7 +44,7 @@ module _ (C : Certificate) (t : ℕ) where
   unfolding boundFrom boundAt
   bound-of c = refl
 
-  along-of : (k : Change) (c : ℕ) → afterOf (alongOf k (entryOf C t)) c ≡ boundAlong C (changeIn C k) t c
+  along-of : (k : Change) (c : ℕ) → afterOf (alongOf k (entryOf C t)) c ≡ boundAlong C (changeIn k) t c
   unfolding worstFrom worst boundFrom boundAt
   along-of Unchanged c = zero-add _
   along-of (Changed (Number n)) c = zero-add _
@@ -59,7 +59,7 @@ module _ (C : Certificate) (t : ℕ) where
     unfolding boundAfter
     after-worst s = rw (boundAfter, s, q) (zero-add _ ∙ worst-of)
 
-    pub after-along : (k : Change) → sameFirst C a t ≡ true → changeIn C k ≡ changeOf C a w (C .firstCell a)
+    pub after-along : (k : Change) → sameFirst C a t ≡ true → changeIn k ≡ changeOf C a w (C .firstCell a)
         → afterOf (alongOf k e) c ≡ boundAfter C a w t c
     unfolding boundAfter
     after-along k s p = rw (boundAfter, s, q, ← p) (along-of k c)

@@ -21,7 +21,7 @@ use Rattle.certificate.specs.declared.Write.{Write}
 use Rattle.certificate.specs.declared.FlagEffect.{FlagEffect}
 use Rattle.certificate.specs.declared.FlagEffect.the-variants.{Kept, Changed, Compared}
 use Rattle.certificate.specs.Layout.{Certificate}
-use Rattle.safety.specs.Rules.{noCell, ramEnd, Edge, onOutcome, told, meets, low, high, claimed, boundAt, worst, claimRule, emptyEntry, entryRule, addressRule, startRule, rule20, writable, directWrite, reach, pointedWrite, Change, changeOf, narrowed, left, feasible, follows, claimFollows, claimsFollow, isUnchanged, flagsFollow, compareFollows, firstValue, sameFirst, boundAlong, boundAfter, paid}
+use Rattle.safety.specs.Rules.{noCell, ramEnd, Edge, onEdge, told, meets, low, high, claimed, boundAt, worst, claimRule, emptyEntry, entryRule, addressRule, startRule, rule20, writable, directWrite, reach, pointedWrite, Change, changeOf, narrowed, left, feasible, follows, claimFollows, claimsFollow, isUnchanged, flagsFollow, compareFollows, firstValue, sameFirst, boundAlong, boundAfter, paid}
 use Rattle.safety.specs.Rules.Change.{unchanged, changed}
 use Rattle.safety.specs.Invariant.{at, Registers, Claims, CompareHolds, firstNow, boundNow, Effect, FlagsAfter}
 use Rattle.safety.specs.Accepted.{Accepts}
@@ -139,9 +139,9 @@ now-worst C more t r ht e cl =
 
 -- Compare --
 
-on-outcome : (p : Formula) (o : Bool) → o ≡ decide p → Holds (onOutcome o p)
-on-outcome p true e = decide-true p e refl
-on-outcome p false e = decide-false p e refl
+on-edge : (p : Formula) (o : Bool) → o ≡ decide p → Holds (onEdge o p)
+on-edge p true e = decide-true p e refl
+on-edge p false e = decide-false p e refl
 
 -- the row of a number holds, wherever it is the number
 abbrev EachHolds : ℕ → List (ℕ × Formula) → Type 0
@@ -163,14 +163,14 @@ meets-now n v k f e hv hk =
     let o = condition n f in
     let is : (m : ℕ) → n ≡ m → o ≡ condition m (compareFlags v k) = λ m q. rw (q, e) refl in
     choose-holds n (told o v k) (
-      λ q. on-outcome (lt v k) o (is 7 q ∙ compare-lt v k),
+      λ q. on-edge (lt v k) o (is 7 q ∙ compare-lt v k),
       (
-        λ q. on-outcome (le k v) o (is 15 q ∙ compare-ge v k),
+        λ q. on-edge (le k v) o (is 15 q ∙ compare-ge v k),
         (
-          λ q. on-outcome (eq v k) o (is 6 q ∙ compare-eq v k hv hk),
+          λ q. on-edge (eq v k) o (is 6 q ∙ compare-eq v k hv hk),
           (
-            λ q. on-outcome (neg (eq v k)) o (is 14 q ∙ compare-ne v k hv hk),
-            (λ q. on-outcome (le v k) o (is 3 q ∙ compare-le v k hv hk), (λ q. on-outcome (lt k v) o (is 11 q ∙ compare-gt v k hv hk), tt)),
+            λ q. on-edge (neg (eq v k)) o (is 14 q ∙ compare-ne v k hv hk),
+            (λ q. on-edge (le v k) o (is 3 q ∙ compare-le v k hv hk), (λ q. on-edge (lt k v) o (is 11 q ∙ compare-gt v k hv hk), tt)),
           ),
         ),
       ),

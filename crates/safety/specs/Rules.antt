@@ -53,15 +53,15 @@ abbrev pub plainEdge : ℕ → Edge
 plainEdge t = record { condition = 8; outcome = true; to = t }
 
 -- p on the edge where the condition holds, its opposite on the other
-abbrev pub onOutcome : Bool → Formula → Formula
-onOutcome true p = p
-onOutcome false p = neg p
+abbrev pub onEdge : Bool → Formula → Formula
+onEdge true p = p
+onEdge false p = neg p
 
 -- of a cell that was compared with k: the values that meet C, NC, Z, NZ, ULE, UGT, unsigned
 abbrev pub told : Bool → ℕ → ℕ → List (ℕ × Formula)
 told o v k =
-    (7, onOutcome o (lt v k)) ∷ (15, onOutcome o (le k v)) ∷ (6, onOutcome o (eq v k)) ∷ (14, onOutcome o (neg (eq v k)))
-    ∷ (3, onOutcome o (le v k)) ∷ (11, onOutcome o (lt k v)) ∷ []
+    (7, onEdge o (lt v k)) ∷ (15, onEdge o (le k v)) ∷ (6, onEdge o (eq v k)) ∷ (14, onEdge o (neg (eq v k)))
+    ∷ (3, onEdge o (le v k)) ∷ (11, onEdge o (lt k v)) ∷ []
 
 -- any other condition says nothing
 unfoldable pub meets : ℕ → Bool → ℕ → ℕ → Formula
@@ -73,7 +73,7 @@ pub data Change : Type 0 where
   changed : NewValue → Change
 
 module _ (C : Certificate) where
-  -- the range of a cell at an address: its claim's, unclaimed 0 to 255
+  -- the range of a cell at an address: its claim's, else 0 to 255 (asked of mapped cells alone: none is FFH)
   unfoldable pub low : ℕ → ℕ → ℕ
   low a x = pick (eqb x (C .firstCell a)) (C .firstLow a) (pick (eqb x (C .secondCell a)) (C .secondLow a) 0)
 

@@ -20,11 +20,11 @@ add-c c = search needs
 add-c-2 : tie.Need-add-c-2
 add-c-2 c = search needs
 
-offset-requires : tie.Need-offset-requires
-offset-requires c κs = search needs
+biased-requires : tie.Need-biased-requires
+biased-requires c κs = search needs
 
-offset-requires-2 : tie.Need-offset-requires-2
-offset-requires-2 c κs = search needs
+biased-requires-2 : tie.Need-biased-requires-2
+biased-requires-2 c κs = search needs
 
 add-overflows : tie.Need-add-overflows
 add-overflows c = search needs
@@ -40,7 +40,7 @@ unfolding addition
 returns c =
     let p = c .before .before .before .before .before .args in
     let value : c .before .before .before .wrapping-add-u82 .result ≡ (p .x + p .y + p .k) % 256 = omega arith in
-    simp (c .overflows .ensures, c .before .offset2 .ensures .0, c .before .before .offset .ensures .0, value)
+    simp (c .overflows .ensures, c .before .biased2 .ensures .0, c .before .before .biased .ensures .0, value)
 
 pub addition-spec : {M : Type 1} → statement M
 addition-spec =
@@ -50,8 +50,8 @@ addition-spec =
     wrapping-add-u8-requires-2
     add-c
     add-c-2
-    offset-requires
-    offset-requires-2
+    biased-requires
+    biased-requires-2
     add-overflows
     add-overflows-2
     overflows-requires

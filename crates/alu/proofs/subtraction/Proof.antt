@@ -17,14 +17,14 @@ wrapping-sub-u8-requires-2 c κs = search needs
 add-c : tie.Need-add-c
 add-c c = search needs
 
-offset-requires : tie.Need-offset-requires
-offset-requires c κs = search needs
+biased-requires : tie.Need-biased-requires
+biased-requires c κs = search needs
 
 add-overflows : tie.Need-add-overflows
 add-overflows c = search needs
 
-offset-requires-2 : tie.Need-offset-requires-2
-offset-requires-2 c κs = search needs
+biased-requires-2 : tie.Need-biased-requires-2
+biased-requires-2 c κs = search needs
 
 add-overflows-2 : tie.Need-add-overflows-2
 add-overflows-2 c = search needs
@@ -48,7 +48,7 @@ returns c =
     let hs : second .result < 256 = omega (arith, second .ok) in
     let e = wrap-sub-8 (p .x) (p .y) (first .result) hx hy hf (first .ensures) in
     let f = wrap-sub-8 (first .result) (p .k) (second .result) hf hk hs (second .ensures) in
-    simp (c .overflows .ensures, c .before .offset2 .ensures .0, c .before .before .offset .ensures .0, f, e, wrap-sub-two-8 (p .x) (p .y) (p .k) hx hy (c .before .before .before .before .before .pre))
+    simp (c .overflows .ensures, c .before .biased2 .ensures .0, c .before .before .biased .ensures .0, f, e, wrap-sub-two-8 (p .x) (p .y) (p .k) hx hy (c .before .before .before .before .before .pre))
 
 pub subtraction-spec : {M : Type 1} → statement M
 subtraction-spec =
@@ -57,9 +57,9 @@ subtraction-spec =
     wrapping-sub-u8-requires
     wrapping-sub-u8-requires-2
     add-c
-    offset-requires
+    biased-requires
     add-overflows
-    offset-requires-2
+    biased-requires-2
     add-overflows-2
     sub-overflows
     overflows-requires

@@ -2,8 +2,6 @@ use Rattle.certificate.specs.declared.NewValue.the-variants.{Unknown}
 use Rattle.safety.specs.Rules as rules
 use Rattle.base.specs.Choice.{pick}
 use mathlib.Core.Bool.{Bool}
-use Rattle.certificate.specs.Layout.{certificateOf}
-use Prim.Native.Nat.{_-_}
 use mathlib.Core.Path.{ap}
 use Rattle.claims.proofs.Laws.{change-pick}
 use borrow.Author.Needs.{needs}
@@ -51,7 +49,6 @@ returns-2 c = simp (c .changed-if .ensures, change-pick, c .before .before .befo
 
 returns-3 : tie.Need-returns-3
 returns-3 c =
-    let C = certificateOf (c .before .before .before .before .before .before .args .cert .now) in
     simp (c .changed-if2 .ensures, change-pick, c .before .before .before .w2 .given .1) (ap (λ (b : Bool). pick {A = rules.Change} b (rules.Change.changed Unknown) rules.Change.unchanged) (c .before .pointed-at .ensures))
 
 returns-4 : tie.Need-returns-4

@@ -10,7 +10,7 @@ use borrow.Author.Tests.{le-leb, lt-leb, eq-eqb, ne-eqb}
 use Rattle.hex_line.specs.Line.{lineOutcome}
 use Rattle.hex_line.specs.LineLaws.{refused-above}
 use Rattle.hex_text.specs.Stream.{streamOf, pushStream, pushBuffer}
-use Rattle.hex_text.specs.StreamLaws.{Fed, fed-one, fed-all, fed-refused, long-above}
+use Rattle.hex_text.specs.StreamLaws.{FedUpTo, fed-one, fed-all, fed-refused, long-above}
 use borrow.Author.Needs.{needs}
 use Rattle.hex_text.proofs.feed_open.Statement.{statement}
 use Rattle.hex_text.proofs.feed_open.Tie as tie
@@ -18,7 +18,7 @@ use Rattle.hex_text.proofs.feed_open.Tie as tie
 abbrev Inv-loop : tie.InvT-loop
 Inv-loop filled piece buffer₀ reader₀ held₀ count₀ at₀ buffer reader held count at =
     (at ≤ length piece)
-    × Fed (length buffer₀) (streamOf reader₀ held₀ count₀ 0) piece buffer₀ (streamOf reader held count 0) at buffer
+    × FedUpTo (length buffer₀) (streamOf reader₀ held₀ count₀ 0) piece buffer₀ (streamOf reader held count 0) at buffer
     × (length buffer ≡ length buffer₀)
     × (length held ≡ 523)
 

@@ -35,7 +35,7 @@ returns c =
     let l = g .k .low in
     let h = g .k .high in
     let e = edgeOf (g .e) in
-    c .all-within .ensures ∙ ap (λ (s : Values). decide (allWithin s l h)) (c .before .values-left .ensures) ∙ follows-left C a x l h e ∙ ap (λ (t : Change). decide (follows C a e (changeIn C t) x l h)) (sym (c .before .before .enum-told .given .1))
+    c .all-within .ensures ∙ ap (λ (s : Values). decide (allWithin s l h)) (c .before .values-left .ensures) ∙ follows-left C a x l h e ∙ ap (λ (t : Change). decide (follows C a e (changeIn t) x l h)) (sym (c .before .before .enum-told .given .1))
 
 returns-2 : tie.Need-returns-2
 returns-2 c =
@@ -46,7 +46,7 @@ returns-2 c =
     let l = g .k .low in
     let h = g .k .high in
     let e = edgeOf (g .e) in
-    c .value-follows .ensures ∙ follows-stored C a x l h (plainEdge 0) e (c .before .before .c .given .0 .0) ∙ ap (λ (t : Change). decide (follows C a e (changeIn C t) x l h)) (sym (c .before .before .c .given .1))
+    c .value-follows .ensures ∙ follows-stored C a x l h (plainEdge 0) e (c .before .before .c .given .0 .0) ∙ ap (λ (t : Change). decide (follows C a e (changeIn t) x l h)) (sym (c .before .before .c .given .1))
 
 pub change-follows-spec : {M : Type 1} → statement M
 change-follows-spec =

@@ -1,10 +1,10 @@
--- `alu::offset` meets its contract.
+-- `alu::biased` meets its contract.
 -- Assumes nothing.
 use native.Mathlib.Omega.{arith}
 use borrow.Author.Needs.{needs}
-use Rattle.alu.specs.Operations.{offset}
-use Rattle.alu.proofs.offset.Statement.{statement}
-use Rattle.alu.proofs.offset.Tie as tie
+use Rattle.alu.specs.Operations.{biased}
+use Rattle.alu.proofs.biased.Statement.{statement}
+use Rattle.alu.proofs.biased.Tie as tie
 
 wrapping-add-u8-requires : tie.Need-wrapping-add-u8-requires
 wrapping-add-u8-requires c κs = search needs
@@ -13,8 +13,8 @@ cast-result : tie.Need-cast-result
 cast-result c = search needs
 
 returns : tie.Need-returns
-unfolding offset
+unfolding biased
 returns c = (simp (c .wrapping-add-u8 .ensures), omega arith)
 
-pub offset-spec : {M : Type 1} → statement M
-offset-spec = tie.close (tie.spec wrapping-add-u8-requires cast-result returns)
+pub biased-spec : {M : Type 1} → statement M
+biased-spec = tie.close (tie.spec wrapping-add-u8-requires cast-result returns)
