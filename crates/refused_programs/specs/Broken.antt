@@ -14,7 +14,7 @@ use Rattle.semantics.specs.Run.{recordAt}
 use Rattle.certificate.specs.declared.Verdict.the-variants.{Refused}
 use Rattle.safety.specs.Verdicts.{verdictOn}
 use Rattle.safety.specs.Statement.{Demand3, StepRight, Monitored, Walk, fromReset, monitorStep}
-use Rattle.refused_programs.specs.Programs.{Program, stopping, straying, unnamed, pointing, pushing, returning, looping, charging}
+use Rattle.refused_programs.specs.Programs.{Program, stopping, straying, unnamed, pointing, pushing, returning, looping, charging, popping, fetching, resuming, serving}
 use Rattle.refused_programs.specs.Opened.{opened}
 
 -- refused at an address, and not as demanded
@@ -22,10 +22,10 @@ pub record Breaks (p : Program) (rule address : ℕ) : Type 0 where
   pub verdict : verdictOn (p .certificate) (p .image) ≡ Refused rule (romAddr address)
   pub broken : Demand3 (p .certificate) (p .image) → ⊥
 
-zeros : (n i : ℕ) → getD (replicate n 0) i 0 < 256
-zeros zero i = omega arith
-zeros (suc n) zero = omega arith
-zeros (suc n) (suc i) = zeros n i
+ones : (n i : ℕ) → getD (replicate n 1) i 0 < 256
+ones zero i = omega arith
+ones (suc n) zero = omega arith
+ones (suc n) (suc i) = ones n i
 
 module _ (p : Program) where
   -- step k is right, counted from record i on
@@ -40,14 +40,14 @@ module _ (p : Program) where
   right-at (suc k) tables schedule i m w =
       right-at k tables schedule (i + 1) (monitorStep (p .certificate) (p .image) m (recordAt schedule i)) (w .1)
 
-  -- step k of the run from the reset state whose open bytes are 0, without requests
+  -- step k of the run from the reset state whose open bytes are 0; each byte of the schedule is 1, so each record requests timer 0's interrupt
   step : (d : Demand3 (p .certificate) (p .image)) (k : ℕ)
-      → RightAt k (d .0) (replicate (8 * suc k) 0) 0 (fromReset (p .certificate) (p .image) resetState)
+      → RightAt k (d .0) (replicate (8 * suc k) 1) 0 (fromReset (p .certificate) (p .image) resetState)
   step d k =
-      let schedule : List ℕ = replicate (8 * suc k) 0 in
-      let l = length-replicate {A = ℕ} (8 * suc k) 0 in
+      let schedule : List ℕ = replicate (8 * suc k) 1 in
+      let l = length-replicate {A = ℕ} (8 * suc k) 1 in
       let e : length schedule / 8 ≡ suc k = omega arith in
-      let r = d .1 resetState reset-is-reset schedule (record { whole = omega arith; bytes = zeros (8 * suc k) }) in
+      let r = d .1 resetState reset-is-reset schedule (record { whole = omega arith; bytes = ones (8 * suc k) }) in
       right-at k (d .0) schedule 0 (fromReset (p .certificate) (p .image) resetState)
       (subst (λ (n : ℕ). Walk (p .certificate) (p .image) n (d .0) schedule 0 (fromReset (p .certificate) (p .image) resetState)) e (r .walk))
 
@@ -113,4 +113,36 @@ unfolding opened
 charging-breaks = record {
   verdict = refl;
   broken = λ d. let z : 30 ≤ 22 = step charging d 4 .within .0 (λ e. omega arith) in omega arith;
+}
+
+-- behind POP SP is C1H, above the top
+pub popping-breaks : Breaks popping 25 0x103
+unfolding opened
+popping-breaks = record {
+  verdict = refl;
+  broken = λ d. let z : 0xC1 ≤ 0xC0 = step popping d 1 .stack refl .1 in omega arith;
+}
+
+-- RR2 gives 1000H, the first address behind ROM: there LDC stops
+pub fetching-breaks : Breaks fetching 24 0x102
+unfolding opened
+fetching-breaks = record {
+  verdict = refl;
+  broken = λ d. let z : _≡_ {A = ℕ} 14 0 = step fetching d 1 .goes in omega arith;
+}
+
+-- IRET takes the byte that was pushed for FLAGS and FLAGS for the high half of its address, and goes to 0001H and not to 0107H
+pub resuming-breaks : Breaks resuming 25 0x142
+unfolding opened
+resuming-breaks = record {
+  verdict = refl;
+  broken = λ d. let z : _≡_ {A = ℕ} 0x001 0x107 = step resuming d 5 .event .returning .0 in omega arith;
+}
+
+-- IRET costs 10 cycles, and they are the service's
+pub serving-breaks : Breaks serving 27 0x140
+unfolding opened
+serving-breaks = record {
+  verdict = refl;
+  broken = λ d. let z : 10 ≤ 9 = step serving d 4 .within .0 (λ e. omega arith) in omega arith;
 }
