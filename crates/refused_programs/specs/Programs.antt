@@ -7,9 +7,23 @@ use Rattle.base.specs.Choice.{choose}
 use Rattle.certificate.specs.Layout.{Certificate, certificateFrom}
 use Rattle.logger_cases.specs.Gathered.{upTo}
 
+-- an image, and what its certificate has: entries by address, cells by register, rows by routine, the floor
 pub record Program : Type 0 where
   pub image : List ℕ
-  pub certificate : Certificate
+  pub entries : List (ℕ × List ℕ)
+  pub cells : List (ℕ × List ℕ)
+  pub rows : List (ℕ × List ℕ)
+  pub floor : ℕ
+
+-- where code ends, and with it the entries
+abbrev pub codeEnd : ℕ
+codeEnd = 0x160
+
+-- zero where nothing is listed; the top is C0H
+abbrev pub certificate : Program → Certificate
+certificate p =
+    certificateFrom (upTo codeEnd (λ a. choose a (p .entries) [])) (upTo 256 (λ x. choose x (p .cells) [])) (upTo 64 (λ n. choose n (p .rows) []))
+    (p .floor) 0xC0
 
 -- code at 0100H, at 0120H and, of the service, at 0140H
 abbrev padded : List ℕ → List ℕ
@@ -28,19 +42,15 @@ entry address routine depth base =
 abbrev row : ℕ → ℕ → ℕ → ℕ → ℕ → ℕ × List ℕ
 row n start side need bound = (n, 0x01 ∷ start ∷ side ∷ need ∷ 0 ∷ bound ∷ [])
 
--- the top is C0H
-abbrev assembled : List ℕ → List (ℕ × List ℕ) → List (ℕ × List ℕ) → List (ℕ × List ℕ) → ℕ → Program
-assembled image entries cells rows floor = record {
-  image = image;
-  certificate =
-      certificateFrom (upTo 4096 (λ a. choose a entries (replicate 14 0))) (upTo 256 (λ x. choose x cells (replicate 3 0)))
-      (upTo 64 (λ n. choose n rows (replicate 6 0))) floor 0xC0;
-}
-
 -- main and routine, with main's need; the service is IRET, with bound 10
 abbrev programOf : List ℕ → List ℕ → ℕ → List (ℕ × List ℕ) → List (ℕ × List ℕ) → List (ℕ × List ℕ) → ℕ → Program
-programOf main routine need entries cells rows floor =
-    assembled (imageOf main routine (0xBF ∷ [])) (entry 0x140 2 0 10 ∷ entries) cells (row 1 0x00 1 need 0 ∷ row 2 0x40 2 0 10 ∷ rows) floor
+programOf main routine need entries cells rows floor = record {
+  image = imageOf main routine (0xBF ∷ []);
+  entries = entry 0x140 2 0 10 ∷ entries;
+  cells = cells;
+  rows = row 1 0x00 1 need 0 ∷ row 2 0x40 2 0 10 ∷ rows;
+  floor = floor;
+}
 
 -- main is LD SP,#C0H; CALL 0120H, again and again
 abbrev calling : List ℕ → ℕ → List (ℕ × List ℕ) → List (ℕ × List ℕ) → Program
@@ -50,10 +60,13 @@ calling routine need entries rows =
 
 -- main is LD SP,#C0H; LD T0CON,#02H; EI, then a jump to itself; the service, with its need and bound
 abbrev interrupted : List ℕ → ℕ → ℕ → List (ℕ × List ℕ) → Program
-interrupted service need bound entries =
-    assembled (imageOf (0xE6 ∷ 0xD9 ∷ 0xC0 ∷ 0xE6 ∷ 0xD2 ∷ 0x02 ∷ 0x9F ∷ 0x8B ∷ 0xFE ∷ []) [] service)
-    (entry 0x100 1 255 0 ∷ entry 0x103 1 0 0 ∷ entry 0x106 1 0 0 ∷ entry 0x107 1 0 0 ∷ entries) ((0xD2, 1 ∷ 1 ∷ 0 ∷ []) ∷ [])
-    (row 1 0x00 1 0 0 ∷ row 2 0x40 2 need bound ∷ []) 0xA0
+interrupted service need bound entries = record {
+  image = imageOf (0xE6 ∷ 0xD9 ∷ 0xC0 ∷ 0xE6 ∷ 0xD2 ∷ 0x02 ∷ 0x9F ∷ 0x8B ∷ 0xFE ∷ []) [] service;
+  entries = entry 0x100 1 255 0 ∷ entry 0x103 1 0 0 ∷ entry 0x106 1 0 0 ∷ entry 0x107 1 0 0 ∷ entries;
+  cells = (0xD2, 1 ∷ 1 ∷ 0 ∷ []) ∷ [];
+  rows = row 1 0x00 1 0 0 ∷ row 2 0x40 2 need bound ∷ [];
+  floor = 0xA0;
+}
 
 -- the instruction at 0100H is undefined
 unfoldable pub stopping : Program
