@@ -124,15 +124,18 @@ popping-breaks = record {
   broken = λ d. let z : 0xC1 ≤ 0xC0 = step popping d 1 .stack refl .1 in omega arith;
 }
 
--- RR2 gives 1000H, the first address behind ROM: there LDC stops
+-- RR2 gives 1000H, the first address behind ROM; an LDC that reads outside ROM stops, so it breaks two promises at once
 pub fetching-breaks : Breaks fetching 24 0x102
 unfolding opened
 fetching-breaks = record {
   verdict = verdict-is fetching tt refl;
-  broken = λ d. let z : _≡_ {A = ℕ} 14 0 = step fetching d 1 .goes in omega arith;
+  broken = λ d.
+      let stops : _≡_ {A = ℕ} 14 0 = step fetching d 1 .goes in
+      let outside : 0x1000 < 4096 = step fetching d 1 .event .pointers in
+      omega arith;
 }
 
--- IRET takes the byte that was pushed for FLAGS and FLAGS for the high half of its address, and goes to 0001H and not to 0107H
+-- IRET takes the pushed byte for FLAGS, FLAGS for the high half of its address and the high half for the low one: to 0001H and not to 0107H
 pub resuming-breaks : Breaks resuming 25 0x142
 unfolding opened
 resuming-breaks = record {

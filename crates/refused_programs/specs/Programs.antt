@@ -33,10 +33,18 @@ unfoldable pub imageOf : List ℕ → List ℕ → List ℕ → List ℕ
 imageOf main routine service =
     (0x01 ∷ 0x40 ∷ []) ++ (replicate 254 0xFF ++ (padded main ++ (padded routine ++ (padded service ++ replicate 3744 0xFF))))
 
--- the entry of an address, without claims: routine, depth, B below 256
+-- the entry of an address, with one claim: routine, depth, B below 256; cell, lo, hi
+abbrev claiming : ℕ → ℕ → ℕ → ℕ → ℕ → ℕ → ℕ → ℕ × List ℕ
+claiming address routine depth base cell lo hi =
+    (address, routine ∷ depth ∷ 0 ∷ base ∷ 0 ∷ 0 ∷ cell ∷ lo ∷ hi ∷ 0xFF ∷ 0 ∷ 0 ∷ 0xFF ∷ 0 ∷ [])
+
+-- without claims
 abbrev entry : ℕ → ℕ → ℕ → ℕ → ℕ × List ℕ
-entry address routine depth base =
-    (address, routine ∷ depth ∷ 0 ∷ base ∷ 0 ∷ 0 ∷ 0xFF ∷ 0 ∷ 0 ∷ 0xFF ∷ 0 ∷ 0 ∷ 0xFF ∷ 0 ∷ [])
+entry address routine depth base = claiming address routine depth base 0xFF 0 0
+
+-- the row of a register that main alone writes, in no table
+abbrev mains : ℕ → ℕ × List ℕ
+mains x = (x, 1 ∷ 1 ∷ 0 ∷ [])
 
 -- the row of a routine that starts between 0100H and 01FFH: the start's low half, side, need, bound below 256
 abbrev row : ℕ → ℕ → ℕ → ℕ → ℕ → ℕ × List ℕ
@@ -63,7 +71,7 @@ abbrev interrupted : List ℕ → ℕ → ℕ → List (ℕ × List ℕ) → Pro
 interrupted service need bound entries = record {
   image = imageOf (0xE6 ∷ 0xD9 ∷ 0xC0 ∷ 0xE6 ∷ 0xD2 ∷ 0x02 ∷ 0x9F ∷ 0x8B ∷ 0xFE ∷ []) [] service;
   entries = entry 0x100 1 255 0 ∷ entry 0x103 1 0 0 ∷ entry 0x106 1 0 0 ∷ entry 0x107 1 0 0 ∷ entries;
-  cells = (0xD2, 1 ∷ 1 ∷ 0 ∷ []) ∷ [];
+  cells = mains 0xD2 ∷ [];
   rows = row 1 0x00 1 0 0 ∷ row 2 0x40 2 need bound ∷ [];
   floor = 0xA0;
 }
@@ -82,7 +90,7 @@ unnamed = calling (0xAF ∷ []) 2 [] []
 
 -- LD R0,@R1, then a jump to itself; no table is declared
 unfoldable pub pointing : Program
-pointing = programOf (0xC7 ∷ 0x01 ∷ 0x8B ∷ 0xFE ∷ []) [] 0 (entry 0x100 1 255 0 ∷ entry 0x102 1 255 0 ∷ []) ((0xC0, 1 ∷ 1 ∷ 0 ∷ []) ∷ []) [] 0xA0
+pointing = programOf (0xC7 ∷ 0x01 ∷ 0x8B ∷ 0xFE ∷ []) [] 0 (entry 0x100 1 255 0 ∷ entry 0x102 1 255 0 ∷ []) (mains 0xC0 ∷ []) [] 0xA0
 
 -- LD SP,#C0H; PUSH R0, again and again; five stack bytes
 unfoldable pub pushing : Program
@@ -108,14 +116,14 @@ charging =
 unfoldable pub popping : Program
 popping =
     programOf (0xE6 ∷ 0xD9 ∷ 0xC0 ∷ 0x50 ∷ 0xC0 ∷ 0x8B ∷ 0xFC ∷ []) [] 0
-    (entry 0x100 1 255 0 ∷ entry 0x103 1 0 0 ∷ entry 0x105 1 0 0 ∷ []) ((0xC0, 1 ∷ 1 ∷ 0 ∷ []) ∷ []) [] 0xA0
+    (entry 0x100 1 255 0 ∷ entry 0x103 1 0 0 ∷ entry 0x105 1 0 0 ∷ []) (mains 0xC0 ∷ []) [] 0xA0
 
 -- LD R2,#10H; LDC R0,@RR2, with R2 claimed 10H; then a jump to itself
 unfoldable pub fetching : Program
 fetching =
     programOf (0x2C ∷ 0x10 ∷ 0xC3 ∷ 0x02 ∷ 0x8B ∷ 0xFE ∷ []) [] 0
-    (entry 0x100 1 255 0 ∷ (0x102, 1 ∷ 255 ∷ 0 ∷ 0 ∷ 0 ∷ 0 ∷ 0xC2 ∷ 0x10 ∷ 0x10 ∷ 0xFF ∷ 0 ∷ 0 ∷ 0xFF ∷ 0 ∷ []) ∷ entry 0x104 1 255 0 ∷ [])
-    ((0xC0, 1 ∷ 1 ∷ 0 ∷ []) ∷ (0xC2, 1 ∷ 1 ∷ 0 ∷ []) ∷ []) [] 0xA0
+    (entry 0x100 1 255 0 ∷ claiming 0x102 1 255 0 0xC2 0x10 0x10 ∷ entry 0x104 1 255 0 ∷ [])
+    (mains 0xC0 ∷ mains 0xC2 ∷ []) [] 0xA0
 
 -- the service is PUSH R0; IRET
 unfoldable pub resuming : Program
