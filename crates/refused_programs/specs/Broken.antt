@@ -13,8 +13,8 @@ use Rattle.semantics.specs.ResetLaws.{reset-is-reset}
 use Rattle.semantics.specs.Run.{recordAt}
 use Rattle.certificate.specs.declared.Verdict.the-variants.{Refused}
 use Rattle.safety.specs.Verdicts.{verdictOn}
-use Rattle.safety.specs.Statement.{Demand3, StepRight, Monitored, Walk, fromReset, monitorStep}
-use Rattle.refused_programs.specs.Programs.{Program, certificate, stopping, straying, unnamed, pointing, pushing, returning, looping, charging, popping, fetching, resuming, serving}
+use Rattle.safety.specs.Statement.{Opener, byReset, byCall, byInterrupt, Demand3, StepRight, Monitored, Walk, fromReset, monitorStep}
+use Rattle.refused_programs.specs.Programs.{Program, certificate, stopping, straying, unnamed, pointing, pushing, returning, looping, charging, popping, fetching, resuming, serving, crossing, jumping, leaving}
 use Rattle.refused_programs.specs.Opened.{opened}
 use Rattle.refused_programs.specs.Computed.{verdict-is}
 
@@ -149,4 +149,34 @@ unfolding opened
 serving-breaks = record {
   verdict = verdict-is serving tt refl;
   broken = λ d. let z : 10 ≤ 9 = step serving d 4 .within .0 (λ e. omega arith) in omega arith;
+}
+
+-- R1 is 0 and then 1: the instruction at 0102H points into table 1 and into table 2
+pub crossing-breaks : Breaks crossing 24 0x102
+unfolding opened
+crossing-breaks = record {
+  verdict = verdict-is crossing tt refl;
+  broken = λ d.
+      let first : 1 ≡ d .0 0x102 = step crossing d 1 .event .pointers .1 .0 in
+      let second : 2 ≡ d .0 0x102 = step crossing d 4 .event .pointers .1 .0 in
+      omega arith;
+}
+
+-- a computed jump runs
+pub jumping-breaks : Breaks jumping 22 0x100
+unfolding opened
+jumping-breaks = record { verdict = verdict-is jumping tt refl; broken = λ d. step jumping d 0 .event .pointers }
+
+-- no call opened main
+abbrev Called : Opener → Type 0
+Called byReset = ⊥
+Called byCall = Unit {0}
+Called byInterrupt = ⊥
+
+-- RET goes to 0000H, which stands for main's return address, but no call opened main
+pub leaving-breaks : Breaks leaving 22 0x100
+unfolding opened
+leaving-breaks = record {
+  verdict = verdict-is leaving tt refl;
+  broken = λ d. let z : _≡_ {A = ℕ} 0x000 0x000 × (byReset ≡ byCall) = step leaving d 0 .event .returning in subst Called (sym (z .1)) tt;
 }

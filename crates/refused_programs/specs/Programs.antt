@@ -1,4 +1,4 @@
--- Twelve small programs with their certificates, each of which breaks one rule.
+-- Fifteen small programs with their certificates, each of which breaks one rule.
 -- Assumes nothing.
 use mathlib.Core.List.{List, [], _∷_, _++_}
 use Prim.Native.Nat.{ℕ, _-_}
@@ -132,3 +132,18 @@ resuming = interrupted (0x70 ∷ 0xC0 ∷ 0xBF ∷ []) 1 18 (entry 0x140 2 0 18 
 -- the service is IRET, with bound 9
 unfoldable pub serving : Program
 serving = interrupted (0xBF ∷ []) 0 9 (entry 0x140 2 0 9 ∷ [])
+
+-- LD R1,#00H; LD R0,@R1; INC R1, then a jump to the second; R1 is claimed 0 to 1, register 00H is in table 1 and 01H in table 2
+unfoldable pub crossing : Program
+crossing =
+    programOf (0x1C ∷ 0x00 ∷ 0xC7 ∷ 0x01 ∷ 0x1E ∷ 0x8B ∷ 0xFB ∷ []) [] 0
+    (entry 0x100 1 255 0 ∷ claiming 0x102 1 255 0 0xC1 0 1 ∷ entry 0x104 1 255 0 ∷ entry 0x105 1 255 0 ∷ [])
+    (mains 0xC0 ∷ mains 0xC1 ∷ (0x00, 0 ∷ 0 ∷ 1 ∷ []) ∷ (0x01, 0 ∷ 0 ∷ 2 ∷ []) ∷ []) [] 0xA0
+
+-- main is JP @RR0
+unfoldable pub jumping : Program
+jumping = programOf (0x30 ∷ 0x00 ∷ []) [] 0 (entry 0x100 1 255 0 ∷ []) [] [] 0xA0
+
+-- main is RET
+unfoldable pub leaving : Program
+leaving = programOf (0xAF ∷ []) [] 0 (entry 0x100 1 255 0 ∷ []) [] [] 0xA0
