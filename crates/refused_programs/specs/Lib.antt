@@ -1,3 +1,4 @@
 pub mod Broken
+pub mod Computed
 pub mod Opened
 pub mod Programs

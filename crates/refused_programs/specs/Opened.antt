@@ -1,13 +1,15 @@
 -- One name that opens every definition which the programs compute through.
 -- Assumes nothing.
 use Prim.Native.Nat.{ℕ}
-use Rattle.semantics.specs.Execute.{binaryOf, modifyOf, loadInto, pushOperand, jumpOf, returnOf}
+use Rattle.semantics.specs.Execute.{binaryOf, modifyOf, loadInto, pushOperand, jumpOf, returnOf, popOperand, codeAddress, loadCodeOf, interruptReturnOf, jumpPairOf}
+use Rattle.semantics.specs.Step.{enterOf}
 use Rattle.semantics.specs.Reset.{resetState}
 use Rattle.chip.specs.Reset.{resetRegisters}
 use Rattle.safety.specs.Statement.{eventOf, monitorStep}
+use Rattle.rule20.specs.Parts.{cellsRule, startsRule, mainRule, serviceRule, fixedRule}
 use Rattle.logger_cases.specs.Opened.{opened as casesOpened}
-use Rattle.refused_programs.specs.Programs.{imageOf, stopping, straying, unnamed, pointing, pushing, returning, looping, charging}
+use Rattle.refused_programs.specs.Programs.{imageOf, stopping, straying, unnamed, pointing, pushing, returning, looping, charging, popping, fetching, resuming, serving, crossing, jumping, leaving}
 
 unfoldable pub opened : ℕ
-unfolding casesOpened binaryOf modifyOf loadInto pushOperand jumpOf returnOf resetState resetRegisters eventOf monitorStep imageOf stopping straying unnamed pointing pushing returning looping charging
+unfolding casesOpened binaryOf modifyOf loadInto pushOperand jumpOf returnOf popOperand codeAddress loadCodeOf interruptReturnOf jumpPairOf enterOf resetState resetRegisters eventOf monitorStep cellsRule startsRule mainRule serviceRule fixedRule imageOf stopping straying unnamed pointing pushing returning looping charging popping fetching resuming serving crossing jumping leaving
 opened = 0

@@ -1,4 +1,4 @@
--- Eight small programs with their certificates, each of which breaks one rule.
+-- Fifteen small programs with their certificates, each of which breaks one rule.
 -- Assumes nothing.
 use mathlib.Core.List.{List, [], _∷_, _++_}
 use Prim.Native.Nat.{ℕ, _-_}
@@ -7,34 +7,57 @@ use Rattle.base.specs.Choice.{choose}
 use Rattle.certificate.specs.Layout.{Certificate, certificateFrom}
 use Rattle.logger_cases.specs.Gathered.{upTo}
 
+-- an image, and what its certificate has: entries by address, cells by register, rows by routine, the floor
 pub record Program : Type 0 where
   pub image : List ℕ
-  pub certificate : Certificate
+  pub entries : List (ℕ × List ℕ)
+  pub cells : List (ℕ × List ℕ)
+  pub rows : List (ℕ × List ℕ)
+  pub floor : ℕ
 
--- code at 0100H and at 0120H; the service at 0140H is IRET
+-- where code ends, and with it the entries
+abbrev pub codeEnd : ℕ
+codeEnd = 0x160
+
+-- zero where nothing is listed; the top is C0H
+abbrev pub certificate : Program → Certificate
+certificate p =
+    certificateFrom (upTo codeEnd (λ a. choose a (p .entries) [])) (upTo 256 (λ x. choose x (p .cells) [])) (upTo 64 (λ n. choose n (p .rows) []))
+    (p .floor) 0xC0
+
+-- code at 0100H, at 0120H and, of the service, at 0140H
 abbrev padded : List ℕ → List ℕ
 padded code = code ++ replicate (32 - length code) 0xFF
 
-unfoldable pub imageOf : List ℕ → List ℕ → List ℕ
-imageOf main routine =
-    (0x01 ∷ 0x40 ∷ []) ++ (replicate 254 0xFF ++ (padded main ++ (padded routine ++ (0xBF ∷ replicate 3775 0xFF))))
+unfoldable pub imageOf : List ℕ → List ℕ → List ℕ → List ℕ
+imageOf main routine service =
+    (0x01 ∷ 0x40 ∷ []) ++ (replicate 254 0xFF ++ (padded main ++ (padded routine ++ (padded service ++ replicate 3744 0xFF))))
 
--- the entry of an address, without claims: routine, depth, B below 256
+-- the entry of an address, with one claim: routine, depth, B below 256; cell, lo, hi
+abbrev claiming : ℕ → ℕ → ℕ → ℕ → ℕ → ℕ → ℕ → ℕ × List ℕ
+claiming address routine depth base cell lo hi =
+    (address, routine ∷ depth ∷ 0 ∷ base ∷ 0 ∷ 0 ∷ cell ∷ lo ∷ hi ∷ 0xFF ∷ 0 ∷ 0 ∷ 0xFF ∷ 0 ∷ [])
+
+-- without claims
 abbrev entry : ℕ → ℕ → ℕ → ℕ → ℕ × List ℕ
-entry address routine depth base =
-    (address, routine ∷ depth ∷ 0 ∷ base ∷ 0 ∷ 0 ∷ 0xFF ∷ 0 ∷ 0 ∷ 0xFF ∷ 0 ∷ 0 ∷ 0xFF ∷ 0 ∷ [])
+entry address routine depth base = claiming address routine depth base 0xFF 0 0
+
+-- the row of a register that main alone writes, in no table
+abbrev mains : ℕ → ℕ × List ℕ
+mains x = (x, 1 ∷ 1 ∷ 0 ∷ [])
 
 -- the row of a routine that starts between 0100H and 01FFH: the start's low half, side, need, bound below 256
 abbrev row : ℕ → ℕ → ℕ → ℕ → ℕ → ℕ × List ℕ
 row n start side need bound = (n, 0x01 ∷ start ∷ side ∷ need ∷ 0 ∷ bound ∷ [])
 
--- main and routine, with main's need; the service has bound 10, the top is C0H
+-- main and routine, with main's need; the service is IRET, with bound 10
 abbrev programOf : List ℕ → List ℕ → ℕ → List (ℕ × List ℕ) → List (ℕ × List ℕ) → List (ℕ × List ℕ) → ℕ → Program
 programOf main routine need entries cells rows floor = record {
-  image = imageOf main routine;
-  certificate =
-      certificateFrom (upTo 4096 (λ a. choose a (entry 0x140 2 0 10 ∷ entries) (replicate 14 0))) (upTo 256 (λ x. choose x cells (replicate 3 0)))
-      (upTo 64 (λ n. choose n (row 1 0x00 1 need 0 ∷ row 2 0x40 2 0 10 ∷ rows) (replicate 6 0))) floor 0xC0;
+  image = imageOf main routine (0xBF ∷ []);
+  entries = entry 0x140 2 0 10 ∷ entries;
+  cells = cells;
+  rows = row 1 0x00 1 need 0 ∷ row 2 0x40 2 0 10 ∷ rows;
+  floor = floor;
 }
 
 -- main is LD SP,#C0H; CALL 0120H, again and again
@@ -42,6 +65,16 @@ abbrev calling : List ℕ → ℕ → List (ℕ × List ℕ) → List (ℕ × Li
 calling routine need entries rows =
     programOf (0xE6 ∷ 0xD9 ∷ 0xC0 ∷ 0xF6 ∷ 0x01 ∷ 0x20 ∷ 0x8B ∷ 0xFB ∷ []) routine need
     (entry 0x100 1 255 0 ∷ entry 0x103 1 0 0 ∷ entry 0x106 1 0 0 ∷ entries) [] rows 0xA0
+
+-- main is LD SP,#C0H; LD T0CON,#02H; EI, then a jump to itself; the service, with its need and bound
+abbrev interrupted : List ℕ → ℕ → ℕ → List (ℕ × List ℕ) → Program
+interrupted service need bound entries = record {
+  image = imageOf (0xE6 ∷ 0xD9 ∷ 0xC0 ∷ 0xE6 ∷ 0xD2 ∷ 0x02 ∷ 0x9F ∷ 0x8B ∷ 0xFE ∷ []) [] service;
+  entries = entry 0x100 1 255 0 ∷ entry 0x103 1 0 0 ∷ entry 0x106 1 0 0 ∷ entry 0x107 1 0 0 ∷ entries;
+  cells = mains 0xD2 ∷ [];
+  rows = row 1 0x00 1 0 0 ∷ row 2 0x40 2 need bound ∷ [];
+  floor = 0xA0;
+}
 
 -- the instruction at 0100H is undefined
 unfoldable pub stopping : Program
@@ -57,7 +90,7 @@ unnamed = calling (0xAF ∷ []) 2 [] []
 
 -- LD R0,@R1, then a jump to itself; no table is declared
 unfoldable pub pointing : Program
-pointing = programOf (0xC7 ∷ 0x01 ∷ 0x8B ∷ 0xFE ∷ []) [] 0 (entry 0x100 1 255 0 ∷ entry 0x102 1 255 0 ∷ []) ((0xC0, 1 ∷ 1 ∷ 0 ∷ []) ∷ []) [] 0xA0
+pointing = programOf (0xC7 ∷ 0x01 ∷ 0x8B ∷ 0xFE ∷ []) [] 0 (entry 0x100 1 255 0 ∷ entry 0x102 1 255 0 ∷ []) (mains 0xC0 ∷ []) [] 0xA0
 
 -- LD SP,#C0H; PUSH R0, again and again; five stack bytes
 unfoldable pub pushing : Program
@@ -78,3 +111,39 @@ unfoldable pub charging : Program
 charging =
     calling (0xF6 ∷ 0x01 ∷ 0x24 ∷ 0xAF ∷ 0xAF ∷ []) 4
     (entry 0x120 3 0 22 ∷ entry 0x123 3 0 8 ∷ entry 0x124 4 0 8 ∷ []) (row 3 0x20 1 2 22 ∷ row 4 0x24 1 0 8 ∷ [])
+
+-- LD SP,#C0H; POP R0, again and again
+unfoldable pub popping : Program
+popping =
+    programOf (0xE6 ∷ 0xD9 ∷ 0xC0 ∷ 0x50 ∷ 0xC0 ∷ 0x8B ∷ 0xFC ∷ []) [] 0
+    (entry 0x100 1 255 0 ∷ entry 0x103 1 0 0 ∷ entry 0x105 1 0 0 ∷ []) (mains 0xC0 ∷ []) [] 0xA0
+
+-- LD R2,#10H; LDC R0,@RR2, with R2 claimed 10H; then a jump to itself
+unfoldable pub fetching : Program
+fetching =
+    programOf (0x2C ∷ 0x10 ∷ 0xC3 ∷ 0x02 ∷ 0x8B ∷ 0xFE ∷ []) [] 0
+    (entry 0x100 1 255 0 ∷ claiming 0x102 1 255 0 0xC2 0x10 0x10 ∷ entry 0x104 1 255 0 ∷ [])
+    (mains 0xC0 ∷ mains 0xC2 ∷ []) [] 0xA0
+
+-- the service is PUSH R0; IRET
+unfoldable pub resuming : Program
+resuming = interrupted (0x70 ∷ 0xC0 ∷ 0xBF ∷ []) 1 18 (entry 0x140 2 0 18 ∷ entry 0x142 2 1 10 ∷ [])
+
+-- the service is IRET, with bound 9
+unfoldable pub serving : Program
+serving = interrupted (0xBF ∷ []) 0 9 (entry 0x140 2 0 9 ∷ [])
+
+-- LD R1,#00H; LD R0,@R1; INC R1, then a jump to the second; R1 is claimed 0 to 1, register 00H is in table 1 and 01H in table 2
+unfoldable pub crossing : Program
+crossing =
+    programOf (0x1C ∷ 0x00 ∷ 0xC7 ∷ 0x01 ∷ 0x1E ∷ 0x8B ∷ 0xFB ∷ []) [] 0
+    (entry 0x100 1 255 0 ∷ claiming 0x102 1 255 0 0xC1 0 1 ∷ entry 0x104 1 255 0 ∷ entry 0x105 1 255 0 ∷ [])
+    (mains 0xC0 ∷ mains 0xC1 ∷ (0x00, 0 ∷ 0 ∷ 1 ∷ []) ∷ (0x01, 0 ∷ 0 ∷ 2 ∷ []) ∷ []) [] 0xA0
+
+-- main is JP @RR0
+unfoldable pub jumping : Program
+jumping = programOf (0x30 ∷ 0x00 ∷ []) [] 0 (entry 0x100 1 255 0 ∷ []) [] [] 0xA0
+
+-- main is RET
+unfoldable pub leaving : Program
+leaving = programOf (0xAF ∷ []) [] 0 (entry 0x100 1 255 0 ∷ []) [] [] 0xA0
