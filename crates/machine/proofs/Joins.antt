@@ -1,34 +1,17 @@
--- What the parts of a step in place say of the whole.
+-- Records of a schedule: the eight bytes of one, and what its step says of the run.
 -- Assumes nothing.
-use mathlib.Core.Path.{_≡_, _∙_, refl, sym, ap}
+use mathlib.Core.Path.{_≡_, _∙_, sym, ap}
 use mathlib.Core.List.{List, _∷_, map}
-use mathlib.Core.Bool.{Bool, true, false}
 use Prim.Native.Nat.{ℕ, zero, suc, _+_, _-_, _*_, _/_, _≤_, _<_}
 use native.Mathlib.Omega.{arith}
 use borrow.Author.Tests.{eq-eqb, ne-eqb}
-use lib.Dec.{eqb}
 use lib.ListN.{length, getD, take, drop, length-take, length-drop, drop-of-length-le}
 use lib.Seq.{drop-cons}
-use Rattle.base.specs.Choice.{pick, from}
-use Rattle.semantics.specs.declared.Next.{Next}
+use Rattle.base.specs.Choice.{from}
 use Rattle.semantics.specs.declared.State.{State}
 use Rattle.semantics.specs.declared.Stepped.{Stepped}
-use Rattle.semantics.specs.Step.{refuse, finishOf, stepWith, stepOf}
+use Rattle.semantics.specs.Step.{stepWith, stepOf}
 use Rattle.semantics.specs.Run.{recordAt, runFrom, ran}
-use Rattle.machine.specs.InPlace.{stateWith, finished, ended, rebuilt}
-use Rattle.machine.specs.declared.Core.{Core}
-
--- the step that ends in after where b holds, and else is refused
-ends-by : (b : Bool) (saved regs : List ℕ) (s after : Core) (stop : ℕ)
-    → rebuilt saved regs (pick b (ended after true 0) (ended s false stop))
-    ≡ pick b (record { state = stateWith regs after; stop = 0 }) (refuse (stateWith saved s) stop)
-ends-by true saved regs s after stop = refl
-ends-by false saved regs s after stop = refl
-
-pub finishes : (saved regs : List ℕ) (s : Core) (next : Next) (cost : ℕ)
-    → rebuilt saved regs (finished s next cost) ≡ finishOf (stateWith saved s) (record { regs = regs; next = next }) cost
-unfolding finished finishOf
-finishes saved regs s next cost = ends-by (eqb (next .stop) 0) saved regs s _ (next .stop)
 
 -- a list from i on, element by element
 elements : (n i : ℕ) (l : List ℕ) → length l ≡ i + n → map (λ (k : ℕ). getD l k 0) (from n i) ≡ drop i l

@@ -118,7 +118,7 @@ fn pair(text: &[u8], at: usize) -> u8 {
 
 // Four hexadecimal digits.
 fn quad(text: &[u8], at: usize) -> u16 {
-    execute::word(pair(text, at), pair(text, plus(at, 2)))
+    operands::word(pair(text, at), pair(text, plus(at, 2)))
 }
 
 // A decimal number of one or two digits.

@@ -1,4 +1,5 @@
-// The types of the machine: its state, and what a step, a run and an instruction leave. Their meaning is in specs/; the code is in `machine`.
+// The types of the machine: its state, and what a step, a run and an instruction leave. Their meaning is in specs/; the code is in the crates
+// from `operands` to `machine`.
 use base::RegAddr;
 use base::RomAddr;
 

@@ -33,7 +33,7 @@ fn mode_number(mode: Mode) -> u8 {
 
 // Four bytes as a number.
 fn long(a: u8, b: u8, c: u8, d: u8) -> u32 {
-    (execute::word(a, b) as u32) * 65536 + (execute::word(c, d) as u32)
+    (operands::word(a, b) as u32) * 65536 + (operands::word(c, d) as u32)
 }
 
 // A ROM byte; past the end it is dropped.
@@ -48,7 +48,7 @@ fn image_of(case: &[u8; 545]) -> [u8; 4096] {
     let mut image = [255u8; 4096];
     image[0] = case[0];
     image[1] = case[1];
-    let pc = execute::word(case[10], case[11]) as usize;
+    let pc = operands::word(case[10], case[11]) as usize;
     put(&mut image, pc, case[2]);
     put(&mut image, pc + 1, case[3]);
     put(&mut image, pc + 2, case[4]);
@@ -88,7 +88,7 @@ fn state_of(case: &[u8; 545]) -> State {
     let regs = registers_of(case);
     State {
         regs: regs,
-        pc: RomAddr(execute::word(case[10], case[11])),
+        pc: RomAddr(operands::word(case[10], case[11])),
         mode: mode_of(case[12]),
         cycles: long(case[13], case[14], case[15], case[16]),
     }
@@ -113,7 +113,7 @@ fn agrees(case: &[u8; 545]) -> bool {
     let mode = s.mode;
     let regs = s.regs;
     (r.stop == case[281])
-        & (pc.0 == execute::word(case[282], case[283]))
+        & (pc.0 == operands::word(case[282], case[283]))
         & (mode_number(mode) == case[284])
         & (s.cycles == long(case[285], case[286], case[287], case[288]))
         & same_registers(&regs, case)

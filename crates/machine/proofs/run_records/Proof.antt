@@ -1,5 +1,5 @@
 use borrow.Author.Needs.{needs}
-use Rattle.machine.specs.InPlace.{stateWith, stepped}
+use Rattle.entry.specs.InPlace.{stateWith, stepped}
 use Rattle.semantics.specs.Run.{runFrom}
 use lib.ListN.{length, length-take, length-drop}
 use native.Mathlib.Nat.{sub-zero}

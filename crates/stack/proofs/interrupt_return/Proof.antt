@@ -1,0 +1,54 @@
+use Rattle.semantics.specs.Execute.{interruptReturnOf}
+use borrow.Author.Needs.{needs}
+use Rattle.stack.proofs.interrupt_return.Statement.{statement}
+use Rattle.stack.proofs.interrupt_return.Tie as tie
+
+element-copy-out-t10 : tie.Need-element-copy-out-t10
+element-copy-out-t10 c = search needs
+
+load-requires : tie.Need-load-requires
+load-requires c κs = search needs
+
+store-requires : tie.Need-store-requires
+store-requires c κs = search needs
+
+raise-requires : tie.Need-raise-requires
+raise-requires c κs = search needs
+
+element-copy-out-t10-2 : tie.Need-element-copy-out-t10-2
+element-copy-out-t10-2 c = search needs
+
+return-from-call-requires : tie.Need-return-from-call-requires
+return-from-call-requires c κs = search needs
+
+set-interrupts-requires : tie.Need-set-interrupts-requires
+set-interrupts-requires c κs = search needs
+
+mapped-requires : tie.Need-mapped-requires
+mapped-requires c κs = search needs
+
+word-mapped-requires : tie.Need-word-mapped-requires
+word-mapped-requires c κs = search needs
+
+goes-on-requires : tie.Need-goes-on-requires
+goes-on-requires c κs = search needs
+
+returns : tie.Need-returns
+unfolding interruptReturnOf
+returns c = (rw (c .before .before .before .set-interrupts .ensures, c .before .before .before .before .before .before .return-from-call .ensures .0, c .before .before .before .before .before .before .before .before .before .raise .ensures, c .before .before .before .before .before .before .before .before .before .before .before .store .ensures, c .before .before .before .before .before .before .before .before .before .before .before .before .before .load .ensures), rw (c .goes-on .ensures, c .before .word-mapped .ensures, c .before .before .mapped .ensures, c .before .before .before .before .before .before .return-from-call .ensures .1, c .before .before .before .before .before .before .before .before .before .raise .ensures, c .before .before .before .before .before .before .before .before .before .before .before .store .ensures, c .before .before .before .before .before .before .before .before .before .before .before .before .before .load .ensures))
+
+pub interrupt-return-spec : {M : Type 1} → statement M
+interrupt-return-spec =
+    tie.close
+    (tie.spec
+    element-copy-out-t10
+    load-requires
+    store-requires
+    raise-requires
+    element-copy-out-t10-2
+    return-from-call-requires
+    set-interrupts-requires
+    mapped-requires
+    word-mapped-requires
+    goes-on-requires
+    returns)

@@ -1,0 +1,22 @@
+use Rattle.semantics.specs.Step.{stepAfterRequests}
+use mathlib.Core.Path.{_∙_}
+use borrow.Author.Needs.{needs}
+use Rattle.step.proofs.after_requests.Statement.{statement}
+use Rattle.step.proofs.after_requests.Tie as tie
+
+enter-requires : tie.Need-enter-requires
+enter-requires c κs = search needs
+
+returns : tie.Need-returns
+unfolding stepAfterRequests
+returns c saved = c .enter .ensures saved ∙ simp (c .before .before .if1 .taken)
+
+mode-step-requires : tie.Need-mode-step-requires
+mode-step-requires c κs = search needs
+
+returns-2 : tie.Need-returns-2
+unfolding stepAfterRequests
+returns-2 c saved = c .mode-step .ensures saved ∙ simp (c .before .before .if1 .left)
+
+pub after-requests-spec : {M : Type 1} → statement M
+after-requests-spec = tie.close (tie.spec enter-requires returns mode-step-requires returns-2)
