@@ -1,28 +1,12 @@
 -- What each of the encoder's answers means: its value, or its number in the table of answers.
 -- Assumes nothing.
 use Prim.Native.Nat.{ℕ}
-use mathlib.Core.List.{List, [], _∷_}
 use Rattle.base.specs.Outcome.{Outcome}
 use Rattle.base.specs.Outcome.Outcome.{value, refused}
 use Rattle.encode.specs.declared.Encoded.{Encoded}
-use Rattle.encode.specs.declared.Coded.{Coded}
-use Rattle.encode.specs.declared.Joined.{Joined}
 
 abbrev pub encoded : Encoded → Outcome ℕ
 encoded (Encoded.Done n) = value n
 encoded Encoded.Short = refused 7
 encoded Encoded.TooWide = refused 8
 encoded Encoded.OddPair = refused 12
-
--- of the code's inner steps: an instruction's bytes, and one byte
-abbrev pub coded : Coded → Outcome (List ℕ)
-coded (Coded.One a) = value (a ∷ [])
-coded (Coded.Two a b) = value (a ∷ b ∷ [])
-coded (Coded.Three a b c) = value (a ∷ b ∷ c ∷ [])
-coded (Coded.Four a b c d) = value (a ∷ b ∷ c ∷ d ∷ [])
-coded Coded.TooWide = refused 8
-coded Coded.OddPair = refused 12
-
-abbrev pub joined : Joined → Outcome ℕ
-joined (Joined.Byte b) = value b
-joined Joined.TooWide = refused 8

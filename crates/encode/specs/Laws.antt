@@ -14,7 +14,9 @@ use Rattle.base.specs.Choice.{pick}
 use Rattle.base.specs.Outcome.{Outcome, andThen, onOutcome}
 use Rattle.base.specs.Outcome.Outcome.{value, refused}
 use Rattle.isa.specs.declared.Instruction.{Instruction}
-use Rattle.encode.specs.Encode.{aluCode, nibblePair, nibbles, inRow, evenPair, longOffset, ldeBit, bytesOf, sizeOf, encodeAnswer, encodeInto}
+use Rattle.coded.specs.Operands.{nibblePair, nibbles, evenPair, longOffset}
+use Rattle.instruction_bytes.specs.Bytes.{aluCode, inRow, ldeBit, bytesOf}
+use Rattle.encode.specs.Encode.{sizeOf, encodeAnswer, encodeInto}
 
 -- n is the number of the bytes, if there are any
 abbrev HasSize : ℕ → Outcome (List ℕ) → Type 0

@@ -23,8 +23,10 @@ use Rattle.isa.specs.declared.Unary.{Unary}
 use Rattle.isa.specs.declared.UnaryRow.{UnaryRow}
 use Rattle.isa.specs.declared.Implied.{Implied}
 use Rattle.isa.specs.declared.Instruction.{Instruction}
-use Rattle.decode.specs.Decode.{formOf, decodeAt}
-use Rattle.encode.specs.Encode.{aluCode, unaryCode, impliedCode, nibbles, inRow, bytesOf}
+use Rattle.columns.specs.Form.{formOf}
+use Rattle.decode.specs.Decode.{decodeAt}
+use Rattle.coded.specs.Operands.{nibbles}
+use Rattle.instruction_bytes.specs.Bytes.{aluCode, unaryCode, impliedCode, inRow, bytesOf}
 
 -- an operation's row holds it
 alu-row : (a : Alu) → aluRow (aluCode a) ≡ AluRow.Op a

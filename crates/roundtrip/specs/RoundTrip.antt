@@ -20,8 +20,11 @@ use Rattle.isa.specs.Map.Cell.{empty, unary, unaryAt, pop, popAt, push, pushAt,
 use Rattle.isa.specs.Map.Cell.{loadReg, loadRegAt, loadImm, loadAtImm, loadAtReg, call, loadIndexed, storeIndexed, ldcLoadLong, ldcStoreLong}
 use Rattle.isa.specs.Map.Cell.{loadWorkAt, loadAtWork, ldcLoadShort, ldcStoreShort, loadWorkReg, loadRegWork, jumpRel, loadWorkImm, jump, incWork, implied}
 use Rattle.isa.specs.declared.Instruction.{Instruction}
-use Rattle.decode.specs.Decode.{formOf, decodeAt}
-use Rattle.encode.specs.Encode.{aluCode, unaryCode, impliedCode, evenPair, longOffset, nibbles, ldeBit, bytesOf, sizeOf, encodeAnswer, encodeInto}
+use Rattle.columns.specs.Form.{formOf}
+use Rattle.decode.specs.Decode.{decodeAt}
+use Rattle.coded.specs.Operands.{evenPair, longOffset, nibbles}
+use Rattle.instruction_bytes.specs.Bytes.{aluCode, unaryCode, impliedCode, ldeBit, bytesOf}
+use Rattle.encode.specs.Encode.{sizeOf, encodeAnswer, encodeInto}
 use Rattle.encode.specs.Laws.{size-of-bytes}
 
 -- the first byte of a cell in row h

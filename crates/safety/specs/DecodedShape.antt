@@ -21,7 +21,8 @@ use Rattle.isa.specs.Map.Cell.{loadWorkAt, loadAtWork, ldcLoadShort, ldcStoreSh
 use Rattle.isa.specs.declared.Implied.{Implied}
 use Rattle.isa.specs.declared.Implied.the-variants.{Idle, Stop, Di, Ei, Ret, Iret, Rcf, Scf, Ccf, Nop}
 use Rattle.isa.specs.declared.Instruction.{Instruction}
-use Rattle.decode.specs.Decode.{formOf, decodeAt}
+use Rattle.columns.specs.Form.{formOf}
+use Rattle.decode.specs.Decode.{decodeAt}
 use Rattle.action.specs.declared.CodeAddress.{CodeAddress}
 use Rattle.action.specs.declared.CodeAddress.the-variants.{Direct, Short, Long}
 use Rattle.action.specs.declared.Action.{Action}

@@ -1,56 +1,21 @@
-use Rattle.decode.specs.Decode.{formOf}
-use Rattle.isa.specs.Map.Cell.{empty}
-use Rattle.isa.specs.Map.{Cell, columnFRows}
-use mathlib.Core.Path.{ap, sym}
-use Rattle.base.specs.Choice.{choose-miss}
+use borrow.Author.Needs.{needs}
 use Rattle.decode.proofs.column_f.Statement.{statement}
 use Rattle.decode.proofs.column_f.Tie as tie
 
+implied-row-requires : tie.Need-implied-row-requires
+implied-row-requires c κs = search needs
+
+enum-known-p : tie.Need-enum-known-p
+enum-known-p c = search needs
+
+enum-told : tie.Need-enum-told
+enum-told c = search needs
+
 returns : tie.Need-returns
-returns c = rw (c .match .keys1)
+returns c = rw (← rw (c .before .p .given .1) at (c .before .before .before .implied-row .ensures))
 
 returns-2 : tie.Need-returns-2
-returns-2 c = rw (c .match .keys2)
-
-returns-3 : tie.Need-returns-3
-returns-3 c = rw (c .match .keys3)
-
-returns-4 : tie.Need-returns-4
-returns-4 c = rw (c .match .keys4)
-
-returns-5 : tie.Need-returns-5
-returns-5 c = rw (c .match .keys5)
-
-returns-6 : tie.Need-returns-6
-returns-6 c = rw (c .match .keys6)
-
-returns-7 : tie.Need-returns-7
-returns-7 c = rw (c .match .keys7)
-
-returns-8 : tie.Need-returns-8
-returns-8 c = rw (c .match .keys8)
-
-returns-9 : tie.Need-returns-9
-returns-9 c = rw (c .match .keys9)
-
-returns-10 : tie.Need-returns-10
-returns-10 c = rw (c .match .keys10)
-
-returns-11 : tie.Need-returns-11
-returns-11 c = let a = c .before .args in ap (λ (x : Cell). formOf x (a .row) (a .b1) (a .b2) (a .b3)) (sym (choose-miss (a .row) columnFRows empty (c .match .rest)))
+returns-2 c = rw (← rw (c .enum-told .given .1) at (c .before .before .implied-row .ensures))
 
 pub column-f-spec : {M : Type 1} → statement M
-column-f-spec =
-    tie.close
-    (tie.spec
-    returns
-    returns-2
-    returns-3
-    returns-4
-    returns-5
-    returns-6
-    returns-7
-    returns-8
-    returns-9
-    returns-10
-    returns-11)
+column-f-spec = tie.close (tie.spec implied-row-requires enum-known-p enum-told returns returns-2)

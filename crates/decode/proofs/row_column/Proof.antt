@@ -1,4 +1,4 @@
-use Rattle.decode.specs.Decode.{formOf}
+use Rattle.columns.specs.Form.{formOf}
 use Rattle.isa.specs.Map.Cell.{incWork}
 use Rattle.isa.specs.Map.{Cell, rowColumns}
 use mathlib.Core.Path.{ap, sym}

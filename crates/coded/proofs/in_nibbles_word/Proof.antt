@@ -1,0 +1,28 @@
+use borrow.Author.Needs.{needs}
+use Rattle.coded.proofs.in_nibbles_word.Statement.{statement}
+use Rattle.coded.proofs.in_nibbles_word.Tie as tie
+
+join-requires : tie.Need-join-requires
+join-requires c κs = search needs
+
+enum-known-b : tie.Need-enum-known-b
+enum-known-b c = search needs
+
+cast-t9 : tie.Need-cast-t9
+cast-t9 c = search needs
+
+cast-t11 : tie.Need-cast-t11
+cast-t11 c = search needs
+
+enum-told : tie.Need-enum-told
+enum-told c = search needs
+
+returns : tie.Need-returns
+returns c = rw (← rw (c .before .b .given .1) at (c .before .before .before .join .ensures))
+
+returns-2 : tie.Need-returns-2
+returns-2 c = rw (← rw (c .enum-told .given .1) at (c .before .before .join .ensures))
+
+pub in-nibbles-word-spec : {M : Type 1} → statement M
+in-nibbles-word-spec =
+    tie.close (tie.spec join-requires enum-known-b cast-t9 cast-t11 enum-told returns returns-2)
