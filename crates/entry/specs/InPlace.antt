@@ -2,7 +2,6 @@
 -- Assumes nothing.
 use Prim.Native.Nat.{ℕ, _+_, _%_}
 use mathlib.Core.List.{List}
-use mathlib.Core.Bool.{Bool, true, false}
 use lib.Dec.{eqb}
 use Rattle.base.specs.Choice.{pick}
 use Rattle.semantics.specs.declared.Next.{Next}
@@ -17,14 +16,14 @@ stateWith regs s = record { regs = regs; pc = s .pc; mode = s .mode; cycles = s 
 abbrev pub coreOf : State → Core
 coreOf s = record { pc = s .pc; mode = s .mode; cycles = s .cycles }
 
-abbrev pub ended : Core → Bool → ℕ → Ended
-ended s done stop = record { core = s; done = done; stop = stop }
+abbrev pub ended : Core → ℕ → Ended
+ended s stop = record { core = s; stop = stop }
 
 -- the step that left regs and e, where saved are the registers before it
 abbrev pub rebuilt : List ℕ → List ℕ → Ended → Stepped
-rebuilt saved regs e = record { state = stateWith (pick (e .done) regs saved) (e .core); stop = e .stop }
+rebuilt saved regs e = record { state = stateWith (pick (eqb (e .stop) 0) regs saved) (e .core); stop = e .stop }
 
--- once the registers of a step that is not done are put back
+-- once the registers of a step that stopped are put back
 abbrev pub stepped : List ℕ → Ended → Stepped
 stepped regs e = record { state = stateWith regs (e .core); stop = e .stop }
 
@@ -32,5 +31,5 @@ stepped regs e = record { state = stateWith regs (e .core); stop = e .stop }
 unfoldable pub finished : Core → Next → ℕ → Ended
 finished s next cost =
     pick (eqb (next .stop) 0)
-    (ended (record { pc = next .pc; mode = next .mode; cycles = (s .cycles + cost) % 4294967296 }) true 0)
-    (ended s false (next .stop))
+    (ended (record { pc = next .pc; mode = next .mode; cycles = (s .cycles + cost) % 4294967296 }) 0)
+    (ended s (next .stop))

@@ -12,13 +12,13 @@ use Rattle.entry.specs.InPlace.{stateWith, finished, ended, rebuilt}
 use Rattle.entry.specs.declared.Core.{Core}
 
 -- the step that ends in after where b holds, and else is refused
-ends-by : (b : Bool) (saved regs : List ℕ) (s after : Core) (stop : ℕ)
-    → rebuilt saved regs (pick b (ended after true 0) (ended s false stop))
+ends-by : (b : Bool) (saved regs : List ℕ) (s after : Core) (stop : ℕ) → eqb stop 0 ≡ b
+    → rebuilt saved regs (pick b (ended after 0) (ended s stop))
     ≡ pick b (record { state = stateWith regs after; stop = 0 }) (refuse (stateWith saved s) stop)
-ends-by true saved regs s after stop = refl
-ends-by false saved regs s after stop = refl
+ends-by true saved regs s after stop e = refl
+ends-by false saved regs s after stop e = rw e
 
 pub finishes : (saved regs : List ℕ) (s : Core) (next : Next) (cost : ℕ)
     → rebuilt saved regs (finished s next cost) ≡ finishOf (stateWith saved s) (record { regs = regs; next = next }) cost
 unfolding finished finishOf
-finishes saved regs s next cost = ends-by (eqb (next .stop) 0) saved regs s _ (next .stop)
+finishes saved regs s next cost = ends-by (eqb (next .stop) 0) saved regs s _ (next .stop) refl

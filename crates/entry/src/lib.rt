@@ -1,11 +1,9 @@
 // What a step leaves, and the interrupt entry: which requests act, when an entry is due, and what it does, on registers in place.
 // The functions are for the crate `step`.
 ghost use mathlib.Core.Path.{_≡_};
-ghost use mathlib.Core.List.{List};
-ghost use mathlib.Core.Bool.{true, false};
-ghost use Prim.Native.Nat.{ℕ, _*_, _/_};
-ghost use Rattle.semantics.specs.Step.{actingRequests, entryDue, finishOf, enterOf, entryCost};
-ghost use Rattle.entry.specs.InPlace.{stateWith, ended, rebuilt, finished};
+ghost use Prim.Native.Nat.{_*_, _/_};
+ghost use Rattle.semantics.specs.Step.{actingRequests, entryDue, enterOf, entryCost};
+ghost use Rattle.entry.specs.InPlace.{ended, finished};
 use base::RomAddr;
 use semantics::Mode;
 use semantics::Next;
@@ -17,10 +15,9 @@ pub struct Core {
     pub cycles: u32,
 }
 
-// What a step leaves beside the registers; where it is not done, the registers before it are to be put back.
+// What a step leaves beside the registers; where it stops, the registers before it are to be put back.
 pub struct Ended {
     pub core: Core,
-    pub done: bool,
     pub stop: u8,
 }
 
@@ -48,24 +45,16 @@ pub fn entry_due(regs: &[u8; 256], mode: Mode) -> bool
 
 // A refused step.
 pub fn refuse(s: Core, n: u8) -> Ended
-    ensures { λ r. ⌜ r ≡ ended s false n ⌝ }
+    ensures { λ r. ⌜ r ≡ ended s n ⌝ }
 {
-    Ended {
-        core: s,
-        done: false,
-        stop: n,
-    }
+    Ended { core: s, stop: n }
 }
 
 // A waiting step.
 pub fn wait(s: Core) -> Ended
-    ensures { λ r. ⌜ r ≡ ended s true 0 ⌝ }
+    ensures { λ r. ⌜ r ≡ ended s 0 ⌝ }
 {
-    Ended {
-        core: s,
-        done: true,
-        stop: 0,
-    }
+    Ended { core: s, stop: 0 }
 }
 
 // What an instruction or an entry leaves, at a cost.
@@ -83,7 +72,6 @@ pub fn finish(s: Core, next: Next, cost: u8) -> Ended
         };
         return Ended {
             core: core,
-            done: true,
             stop: 0,
         };
     }
@@ -102,7 +90,8 @@ const ENTRY_COST: u8 = 0;
 
 // An interrupt entry: the program counter and FLAGS are pushed, SYM.2 becomes 0, the vector is loaded.
 pub fn enter(image: &[u8], s: Core, regs: &mut [u8; 256]) -> Ended
-    ensures { λ r. ⌜ ((saved : List ℕ) → rebuilt saved (now (regs .exit)) r ≡ finishOf (stateWith saved s) (enterOf (now (image .entry)) (now (regs .entry)) (s .pc)) entryCost) ⌝ }
+    ensures regs { λ _. ⌜ now (regs .exit) ≡ enterOf (now (image .entry)) (now (regs .entry)) (s .pc) .regs ⌝ }
+    ensures ended { λ r. ⌜ r ≡ finished s (enterOf (now (image .entry)) (now (regs .entry)) (s .pc) .next) entryCost ⌝ }
 {
     let pc = s.pc;
     let address = stack::push_address(regs, pc);

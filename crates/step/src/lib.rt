@@ -60,7 +60,7 @@ fn after_requests(due: bool, image: &[u8], s: Core, regs: &mut [u8; 256], rec: &
     mode_step(mode, image, s, regs, rec)
 }
 
-// Puts the registers back where a step is not done.
+// Puts the registers back where a step stopped.
 fn put_back(regs: &mut [u8; 256], before: [u8; 256], done: bool)
     ensures { λ _. ⌜ now (regs .exit) ≡ pick done (now (regs .entry)) before ⌝ }
 {
@@ -80,6 +80,6 @@ pub fn step_in_place(image: &[u8], s: Core, regs: &mut [u8; 256], rec: &[u8; 8])
     chip::post(regs, entry::acting_requests(mode, requests));
     let due = entry::entry_due(regs, mode);
     let r = after_requests(due, image, s, regs, rec);
-    put_back(regs, before, r.done);
+    put_back(regs, before, r.stop == 0);
     r
 }

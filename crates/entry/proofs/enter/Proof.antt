@@ -1,6 +1,4 @@
 use Rattle.semantics.specs.Step.{enterOf}
-use Rattle.entry.specs.InPlaceLaws.{finishes}
-use mathlib.Core.Path.{_∙_}
 use borrow.Author.Needs.{needs}
 use Rattle.entry.proofs.enter.Statement.{statement}
 use Rattle.entry.proofs.enter.Tie as tie
@@ -37,7 +35,10 @@ finish-requires c κs = search needs
 
 returns : tie.Need-returns
 unfolding enterOf
-returns c saved = rw (c .finish .ensures) (finishes saved _ _ (c .before .goes-on .result) _ ∙ simp (c .before .goes-on .ensures, c .before .before .word .ensures, c .before .before .before .byte-at2 .ensures, c .before .before .before .before .byte-at .ensures, c .before .before .before .before .before .set-interrupts .ensures, c .before .before .before .before .before .before .before .push .ensures .0, c .before .before .before .before .before .before .before .push .ensures .1, c .before .before .before .before .before .before .before .before .before .kept-flags .ensures, c .before .before .before .before .before .before .before .before .before .before .before .push-address .ensures .0, c .before .before .before .before .before .before .before .before .before .before .before .push-address .ensures .1))
+returns c = (
+  simp (c .before .before .before .before .before .set-interrupts .ensures, c .before .before .before .before .before .before .before .push .ensures .0, c .before .before .before .before .before .before .before .before .before .kept-flags .ensures, c .before .before .before .before .before .before .before .before .before .before .before .push-address .ensures .0),
+  simp (c .finish .ensures, c .before .goes-on .ensures, c .before .before .word .ensures, c .before .before .before .byte-at2 .ensures, c .before .before .before .before .byte-at .ensures, c .before .before .before .before .before .before .before .push .ensures .1, c .before .before .before .before .before .before .before .before .before .kept-flags .ensures, c .before .before .before .before .before .before .before .before .before .before .before .push-address .ensures .0, c .before .before .before .before .before .before .before .before .before .before .before .push-address .ensures .1),
+)
 
 pub enter-spec : {M : Type 1} → statement M
 enter-spec =

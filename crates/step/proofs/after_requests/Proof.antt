@@ -1,4 +1,5 @@
 use Rattle.semantics.specs.Step.{stepAfterRequests}
+use Rattle.entry.specs.InPlaceLaws.{finishes}
 use mathlib.Core.Path.{_∙_}
 use borrow.Author.Needs.{needs}
 use Rattle.step.proofs.after_requests.Statement.{statement}
@@ -9,7 +10,7 @@ enter-requires c κs = search needs
 
 returns : tie.Need-returns
 unfolding stepAfterRequests
-returns c saved = c .enter .ensures saved ∙ simp (c .before .before .if1 .taken)
+returns c saved = rw (c .enter .ensures .0, c .enter .ensures .1) (finishes saved _ _ _ _ ∙ simp (c .before .before .if1 .taken))
 
 mode-step-requires : tie.Need-mode-step-requires
 mode-step-requires c κs = search needs

@@ -24,7 +24,7 @@ put-back-requires c κs = search needs
 
 returns : tie.Need-returns
 unfolding stepWith
-returns c = rw (c .put-back .ensures) (c .before .before .after-requests .ensures _ ∙ simp (c .before .before .before .before .entry-due .ensures, c .before .before .before .before .before .before .post .ensures, c .before .before .before .before .before .before .before .acting-requests .ensures))
+returns c = rw (c .put-back .ensures) (c .before .before .before .after-requests .ensures _ ∙ simp (c .before .before .before .before .before .entry-due .ensures, c .before .before .before .before .before .before .before .post .ensures, c .before .before .before .before .before .before .before .before .acting-requests .ensures))
 
 pub step-in-place-spec : {M : Type 1} → statement M
 step-in-place-spec =
