@@ -1,5 +1,5 @@
--- Table 6-5, row by row as printed, but for row 1: columns 2 to 6 are ADC, as 01 says, where the manual prints ADD. And that the map by column
--- and row says the same: one equation over all 256 cells, by computing.
+-- Table 6-5, row by row as printed, but for row 1, where columns 2 to 6 are ADC, as 01 says, and the manual prints ADD, and for EFH and FFH, which
+-- their own pages give (CCF, NOP). And that the map by column and row says the same: one equation over all 256 cells, by computing.
 -- Assumes nothing.
 use Prim.Native.Nat.{ℕ, _<_}
 use mathlib.Core.Path.{_≡_, refl}
