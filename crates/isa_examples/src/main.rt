@@ -1,6 +1,7 @@
 // Decodes and encodes one instruction of every first byte, and the examples of the answers 7, 8, 10, 11 and 12.
 use base::RegAddr;
 use base::RomAddr;
+use base::byte_at;
 use decode::decode;
 use encode::Encoded;
 use encode::encode;
@@ -16,8 +17,9 @@ fn text(s: &[u8]) {
     io::write_all(1, s);
 }
 
-fn number(n: u64) {
-    io::print_decimal(1, n);
+fn number(n: u8) {
+    text(b" ");
+    io::print_decimal(1, n as u64);
 }
 
 fn byte(b: u8) {
@@ -28,6 +30,28 @@ fn byte(b: u8) {
 fn word(w: u16) {
     text(b" ");
     io::print_hex(1, w as u64, 4);
+}
+
+// The next dot from a place on, or the end.
+fn end_of(names: &[u8], from: usize) -> usize {
+    let mut at = from;
+    while at < names.len() {
+        if names[at] == b'.' {
+            return at;
+        }
+        at += 1;
+    }
+    at
+}
+
+// The name that starts at a place and ends before a dot.
+fn name(names: &[u8], at: usize) {
+    let end = end_of(names, at);
+    if end <= names.len() {
+        if at <= end {
+            text(&names[at..end]);
+        }
+    }
 }
 
 // A form by its number in the order of `Instruction`, and its operands in the form's order, 0 where it has none.
@@ -92,160 +116,99 @@ fn fields_of(i: Instruction) -> Fields {
     }
 }
 
-// The address modes of a form.
-fn modes_0(form: u8) {
-    match form {
-        0 => text(b"R"),
-        1 => text(b"IR"),
-        2 => text(b"pop R"),
-        3 => text(b"pop IR"),
-        4 => text(b"push R"),
-        5 => text(b"push IR"),
-        6 => text(b"inc r"),
-        7 => text(b"r,r"),
-        8 => text(b"r,Ir"),
-        9 => text(b"R,R"),
-        _ => {}
-    }
-}
-
-fn modes_1(form: u8) {
-    match form {
-        10 => text(b"R,IR"),
-        11 => text(b"R,IM"),
-        12 => text(b"ld R,R"),
-        13 => text(b"ld R,IR"),
-        14 => text(b"ld IR,R"),
-        15 => text(b"ld R,IM"),
-        16 => text(b"ld IR,IM"),
-        17 => text(b"ld r,Ir"),
-        18 => text(b"ld Ir,r"),
-        19 => text(b"ld r,x[r]"),
-        _ => {}
-    }
-}
-
-fn modes_2(form: u8) {
-    match form {
-        20 => text(b"ld x[r],r"),
-        21 => text(b"ld r,R"),
-        22 => text(b"ld R,r"),
-        23 => text(b"ld r,IM"),
-        24 => text(b"ldc r,Irr"),
-        25 => text(b"ldc Irr,r"),
-        26 => text(b"ldcd r,Irr"),
-        27 => text(b"ldci r,Irr"),
-        28 => text(b"ldc r,XS[rr]"),
-        29 => text(b"ldc XS[rr],r"),
-        _ => {}
-    }
-}
-
-fn modes_3(form: u8) {
-    match form {
-        30 => text(b"ldc r,XL[rr]"),
-        31 => text(b"ldc XL[rr],r"),
-        32 => text(b"r,DA"),
-        33 => text(b"DA,r"),
-        34 => text(b"jr"),
-        35 => text(b"jp DA"),
-        36 => text(b"jp IRR"),
-        37 => text(b"call DA"),
-        38 => text(b"call IRR"),
-        _ => {}
-    }
-}
-
+// The address modes of a form, by its number.
 fn modes(form: u8) {
-    match form {
-        0..=9 => modes_0(form),
-        10..=19 => modes_1(form),
-        20..=29 => modes_2(form),
-        _ => modes_3(form),
-    }
+    name(
+        b"R............IR...........pop R........pop IR.......push R.......\
+          push IR......inc r........r,r..........r,Ir.........R,R..........\
+          R,IR.........R,IM.........ld R,R.......ld R,IR......ld IR,R......\
+          ld R,IM......ld IR,IM.....ld r,Ir......ld Ir,r......ld r,x[r]....\
+          ld x[r],r....ld r,R.......ld R,r.......ld r,IM......ldc r,Irr....\
+          ldc Irr,r....ldcd r,Irr...ldci r,Irr...ldc r,XS[rr].ldc XS[rr],r.\
+          ldc r,XL[rr].ldc XL[rr],r.r,DA.........DA,r.........jr...........\
+          jp DA........jp IRR.......call DA......call IRR..................",
+        13 * (form as usize),
+    );
 }
 
-fn alu(a: Alu) {
+// Numbers of names of operations.
+fn alu(a: Alu) -> u8 {
     match a {
-        Alu::Add => text(b"add"),
-        Alu::Adc => text(b"adc"),
-        Alu::Sub => text(b"sub"),
-        Alu::Sbc => text(b"sbc"),
-        Alu::Or => text(b"or"),
-        Alu::And => text(b"and"),
-        Alu::Tcm => text(b"tcm"),
-        Alu::Tm => text(b"tm"),
-        Alu::Cp => text(b"cp"),
-        Alu::Xor => text(b"xor"),
+        Alu::Add => 1,
+        Alu::Adc => 2,
+        Alu::Sub => 3,
+        Alu::Sbc => 4,
+        Alu::Or => 5,
+        Alu::And => 6,
+        Alu::Tcm => 7,
+        Alu::Tm => 8,
+        Alu::Cp => 9,
+        Alu::Xor => 10,
     }
 }
 
-fn unary(u: Unary) {
+fn unary(u: Unary) -> u8 {
     match u {
-        Unary::Dec => text(b"dec"),
-        Unary::Rlc => text(b"rlc"),
-        Unary::Inc => text(b"inc"),
-        Unary::Com => text(b"com"),
-        Unary::Rl => text(b"rl"),
-        Unary::Clr => text(b"clr"),
-        Unary::Rrc => text(b"rrc"),
-        Unary::Sra => text(b"sra"),
-        Unary::Rr => text(b"rr"),
+        Unary::Dec => 11,
+        Unary::Rlc => 12,
+        Unary::Inc => 13,
+        Unary::Com => 14,
+        Unary::Rl => 15,
+        Unary::Clr => 16,
+        Unary::Rrc => 17,
+        Unary::Sra => 18,
+        Unary::Rr => 19,
     }
 }
 
-fn implied(p: Implied) {
+fn implied(p: Implied) -> u8 {
     match p {
-        Implied::Idle => text(b"idle"),
-        Implied::Stop => text(b"stop"),
-        Implied::Di => text(b"di"),
-        Implied::Ei => text(b"ei"),
-        Implied::Ret => text(b"ret"),
-        Implied::Iret => text(b"iret"),
-        Implied::Rcf => text(b"rcf"),
-        Implied::Scf => text(b"scf"),
-        Implied::Ccf => text(b"ccf"),
-        Implied::Nop => text(b"nop"),
+        Implied::Idle => 20,
+        Implied::Stop => 21,
+        Implied::Di => 22,
+        Implied::Ei => 23,
+        Implied::Ret => 24,
+        Implied::Iret => 25,
+        Implied::Rcf => 26,
+        Implied::Scf => 27,
+        Implied::Ccf => 28,
+        Implied::Nop => 29,
     }
 }
 
-fn direct_name(e: bool) {
-    if e {
-        text(b"lde ");
-    } else {
-        text(b"ldc ");
-    }
+fn direct(e: bool) -> u8 {
+    if e { 31 } else { 30 }
 }
 
-fn alu_name(a: Alu) {
-    alu(a);
-    text(b" ");
-}
-
-fn unary_name(u: Unary) {
-    unary(u);
-    text(b" ");
-}
-
-// The operation, where the form has several.
-fn operation(i: Instruction) {
+// The operation's number, where the form has several; else 0.
+fn operation(i: Instruction) -> u8 {
     match i {
-        Instruction::UnaryReg(u, _) => unary_name(u),
-        Instruction::UnaryAt(u, _) => unary_name(u),
-        Instruction::AluWork(a, _, _) => alu_name(a),
-        Instruction::AluWorkAt(a, _, _) => alu_name(a),
-        Instruction::AluReg(a, _, _) => alu_name(a),
-        Instruction::AluRegAt(a, _, _) => alu_name(a),
-        Instruction::AluImm(a, _, _) => alu_name(a),
-        Instruction::LdcLoadDirect(_, e, _) => direct_name(e),
-        Instruction::LdcStoreDirect(_, e, _) => direct_name(e),
+        Instruction::UnaryReg(u, _) => unary(u),
+        Instruction::UnaryAt(u, _) => unary(u),
+        Instruction::AluWork(a, _, _) => alu(a),
+        Instruction::AluWorkAt(a, _, _) => alu(a),
+        Instruction::AluReg(a, _, _) => alu(a),
+        Instruction::AluRegAt(a, _, _) => alu(a),
+        Instruction::AluImm(a, _, _) => alu(a),
+        Instruction::LdcLoadDirect(_, e, _) => direct(e),
+        Instruction::LdcStoreDirect(_, e, _) => direct(e),
         Instruction::Implied(p) => implied(p),
-        _ => {}
+        _ => 0,
     }
+}
+
+fn operation_name(n: u8) {
+    name(
+        b".....add .adc .sub .sbc .or ..and .tcm .tm ..cp ..\
+          xor .dec .rlc .inc .com .rl ..clr .rrc .sra .rr ..\
+          idle.stop.di...ei...ret..iret.rcf..scf..ccf..nop..\
+          ldc .lde .",
+        5 * (n as usize),
+    );
 }
 
 fn write_form(i: Instruction) {
-    operation(i);
+    operation_name(operation(i));
     let f = fields_of(i);
     modes(f.form);
     byte(f.x);
@@ -253,98 +216,136 @@ fn write_form(i: Instruction) {
     word(f.z);
 }
 
-// The number of bytes written, 0 on refusal.
-fn written(r: Encoded) -> u64 {
+// An answer's number: of bytes, 1 to 4, or of the refusal.
+fn decoded(r: Decoded) -> u8 {
     match r {
-        Encoded::Done(n) => n as u64,
-        Encoded::Short => 0,
-        Encoded::TooWide => 0,
-        Encoded::OddPair => 0,
+        Decoded::Found(_, n) => n,
+        Decoded::CutOff => 10,
+        Decoded::Undefined => 11,
+        Decoded::OddPair => 12,
     }
+}
+
+fn encoded(r: Encoded) -> u8 {
+    match r {
+        Encoded::Done(n) => n,
+        Encoded::Short => 7,
+        Encoded::TooWide => 8,
+        Encoded::OddPair => 12,
+    }
+}
+
+fn copied(r: Copied) -> u8 {
+    match r {
+        Copied::Done(n) => n,
+        Copied::Short => 7,
+        Copied::CutOff => 10,
+        Copied::Undefined => 11,
+        Copied::OddPair => 12,
+    }
+}
+
+fn answer(n: u8) {
+    if n < 5 {
+        number(n);
+        text(b" bytes");
+    } else {
+        text(b" refused");
+        number(n);
+    }
+}
+
+// A byte that was written, or EEH.
+fn byte_of(b: u8, written: bool) -> u8 {
+    if written { b } else { 0xEE }
 }
 
 // The first n of four bytes in a buffer of EEH.
-fn first_of(n: u8, b: [u8; 4]) -> [u8; 6] {
-    match n {
-        1 => [b[0], 0xEE, 0xEE, 0xEE, 0xEE, 0xEE],
-        2 => [b[0], b[1], 0xEE, 0xEE, 0xEE, 0xEE],
-        3 => [b[0], b[1], b[2], 0xEE, 0xEE, 0xEE],
-        _ => [b[0], b[1], b[2], b[3], 0xEE, 0xEE],
-    }
+fn first_of(n: u8, b: &[u8; 4]) -> [u8; 6] {
+    [
+        b[0],
+        byte_of(b[1], n > 1),
+        byte_of(b[2], n > 2),
+        byte_of(b[3], n > 3),
+        0xEE,
+        0xEE,
+    ]
 }
 
 // Whether an instruction encodes to the first n of these bytes, and to no more.
-fn restored(i: Instruction, n: u8, bytes: [u8; 4]) -> bool {
+fn restored(i: Instruction, n: u8, bytes: &[u8; 4]) -> bool {
     let mut out = [0xEEu8; 6];
-    let done = written(encode(i, &mut out));
+    let done = encoded(encode(i, &mut out));
     let wanted = first_of(n, bytes);
-    check::same(&out, &wanted) & (done == n as u64)
+    check::same(&out, &wanted) & (done == n)
 }
 
-// A row: the bytes' form with its operands, length, cycles, and whether it encodes to the same bytes; or the number of the refusal.
-fn row(first: u8, second: u8) {
-    let bytes = [first, second, 0x35, 0x46];
+// The form with its operands, length, cycles, and whether it encodes to the same bytes.
+fn found(i: Instruction, n: u8, bytes: &[u8; 4]) {
+    text(b" ");
+    write_form(i);
+    text(b";");
+    number(n);
+    number(isa::cycles_of(bytes[0]));
+    if restored(i, n, bytes) {
+        text(b" same");
+    } else {
+        text(b" other");
+    }
+}
+
+fn row_name(first: u8, second: u8) {
     io::print_hex(1, first as u64, 2);
     byte(second);
-    text(b": ");
-    match decode(&bytes, 0) {
-        Decoded::Found(i, n) => {
-            write_form(i);
-            text(b"; ");
-            number(n as u64);
-            text(b" ");
-            number(isa::cycles_of(first) as u64);
-            if restored(i, n, bytes) {
-                text(b" same");
-            } else {
-                text(b" other");
-            }
-        }
-        Decoded::CutOff => text(b"refused 10"),
-        Decoded::Undefined => text(b"refused 11"),
-        Decoded::OddPair => text(b"refused 12"),
+    text(b":");
+}
+
+// A row: what the bytes decode to, or the number of the refusal.
+fn row(first: u8, second: u8) {
+    let bytes = [first, second, 0x35, 0x46];
+    row_name(first, second);
+    let d = decode(&bytes, 0);
+    if let Decoded::Found(i, n) = d {
+        found(i, n, &bytes);
+    } else {
+        answer(decoded(d));
     }
     text(b"\n");
 }
 
-fn length(n: u8) {
-    number(n as u64);
-    text(b" bytes");
+// The name of an example: 0 to 13 encode, 14 to 22 decode.
+fn example(n: u8) {
+    name(
+        b"INC R16.....................ADD R16,R0..................ADD R0,R16..................\
+          LD R16,#0...................JP condition 16.............LDC R0,#1000H[RR0]..........\
+          LDE R0,#1000H[RR1]..........LDC #1000H[RR0],R0..........JP @01H.....................\
+          CALL @01H...................INC R16, no room............LDC R0,#1000H[RR0], 3 bytes.\
+          LD 00H,#0, 2 bytes..........JP @01H, 1 byte.............program counter 1000H.......\
+          E6H D9H cut off.............A7H 24H 35H cut off.........30H cut off.................\
+          nothing there...............0AH.........................FFH 0AH at 1................\
+          30H 01H.....................F4H 01H.....................",
+        28 * (n as usize),
+    );
+    text(b":");
 }
 
-fn write_decoded(r: Decoded) {
-    match r {
-        Decoded::Found(_, n) => length(n),
-        Decoded::CutOff => text(b"refused 10"),
-        Decoded::Undefined => text(b"refused 11"),
-        Decoded::OddPair => text(b"refused 12"),
-    }
-}
-
-fn write_encoded(r: Encoded) {
-    match r {
-        Encoded::Done(n) => length(n),
-        Encoded::Short => text(b"refused 7"),
-        Encoded::TooWide => text(b"refused 8"),
-        Encoded::OddPair => text(b"refused 12"),
-    }
-}
-
-fn write_copied(r: Copied) {
-    match r {
-        Copied::Done(n) => length(n),
-        Copied::Short => text(b"refused 7"),
-        Copied::CutOff => text(b"refused 10"),
-        Copied::Undefined => text(b"refused 11"),
-        Copied::OddPair => text(b"refused 12"),
-    }
-}
-
-fn decoding(name: &[u8], s: &[u8], at: usize) {
-    text(name);
-    text(b": ");
-    write_decoded(decode(s, at));
+fn decoding(n: u8, s: &[u8], at: usize) {
+    example(n);
+    answer(decoded(decode(s, at)));
     text(b"\n");
+}
+
+fn decoding_examples() {
+    let image = io::buffer();
+    decoding(14, &image, 4096);
+    decoding(15, b"\xE6\xD9", 0);
+    decoding(16, b"\xA7\x24\x35", 0);
+    decoding(17, b"\x30", 0);
+    decoding(18, b"", 0);
+    decoding(19, b"\x0A", 0);
+    decoding(20, b"\xFF\x0A", 1);
+    decoding(21, b"\x30\x01", 0);
+    decoding(22, b"\xF4\x01", 0);
 }
 
 // Encodes into the first bytes of a buffer.
@@ -355,84 +356,50 @@ fn encode_in(i: Instruction, out: &mut [u8], room: usize) -> Encoded {
     encode(i, &mut out[..room])
 }
 
-// Encoding into a buffer of this length, at most 4, and whether the buffer is as it was.
-fn encoding(name: &[u8], i: Instruction, room: usize) {
+// A working register or condition above 15 (0 to 4), a 16-bit offset on pair 0 or 1 (5 to 7), an odd pair for JP or CALL (8, 9), and in too
+// short a buffer (10 to 13), where 7 comes before 8 and 12.
+fn encoder_example(n: u8) -> Instruction {
+    match n {
+        0 | 10 => Instruction::IncWork(16),
+        1 => Instruction::AluWork(Alu::Add, 16, 0),
+        2 => Instruction::AluWork(Alu::Add, 0, 16),
+        3 => Instruction::LoadWorkImm(16, 0),
+        4 => Instruction::Jump(16, RomAddr(0x0100)),
+        5 | 11 => Instruction::LdcLoadLong(0, 0, 0x1000),
+        6 => Instruction::LdcLoadLong(0, 1, 0x1000),
+        7 => Instruction::LdcStoreLong(0, 0, 0x1000),
+        8 | 13 => Instruction::JumpAt(RegAddr(1)),
+        9 => Instruction::CallAt(RegAddr(1)),
+        _ => Instruction::LoadImm(RegAddr(0), 0),
+    }
+}
+
+// How long a buffer an example has, at most 4.
+fn room_of(n: u8) -> usize {
+    byte_at(
+        b"\x01\x02\x02\x02\x03\x04\x04\x04\x02\x04\x00\x03\x02\x01",
+        n as usize,
+    ) as usize
+}
+
+// Encoding, and whether the buffer is as it was.
+fn encoding(n: u8) {
     let mut out = [0xEEu8; 4];
     let before = [0xEEu8; 4];
-    text(name);
-    text(b": ");
-    write_encoded(encode_in(i, &mut out, room));
+    example(n);
+    answer(encoded(encode_in(encoder_example(n), &mut out, room_of(n))));
     if check::same(&out, &before) {
         text(b" unchanged");
     }
     text(b"\n");
 }
 
-fn decoding_examples() {
-    let image = io::buffer();
-    decoding(b"program counter 1000H", &image, 4096);
-    decoding(b"E6H D9H cut off", b"\xE6\xD9", 0);
-    decoding(b"A7H 24H 35H cut off", b"\xA7\x24\x35", 0);
-    decoding(b"30H cut off", b"\x30", 0);
-    decoding(b"nothing there", b"", 0);
-    decoding(b"0AH", b"\x0A", 0);
-    decoding(b"FFH 0AH at 1", b"\xFF\x0A", 1);
-    decoding(b"30H 01H", b"\x30\x01", 0);
-    decoding(b"F4H 01H", b"\xF4\x01", 0);
-}
-
-// A working register or condition above 15.
-fn wide_fields() {
-    encoding(b"INC R16", Instruction::IncWork(16), 1);
-    encoding(b"ADD R16,R0", Instruction::AluWork(Alu::Add, 16, 0), 2);
-    encoding(b"ADD R0,R16", Instruction::AluWork(Alu::Add, 0, 16), 2);
-    encoding(b"LD R16,#0", Instruction::LoadWorkImm(16, 0), 2);
-    encoding(
-        b"JP condition 16",
-        Instruction::Jump(16, RomAddr(0x0100)),
-        3,
-    );
-}
-
-// A 16-bit offset on pair 0 or 1.
-fn offsets() {
-    encoding(
-        b"LDC R0,#1000H[RR0]",
-        Instruction::LdcLoadLong(0, 0, 0x1000),
-        4,
-    );
-    encoding(
-        b"LDE R0,#1000H[RR1]",
-        Instruction::LdcLoadLong(0, 1, 0x1000),
-        4,
-    );
-    encoding(
-        b"LDC #1000H[RR0],R0",
-        Instruction::LdcStoreLong(0, 0, 0x1000),
-        4,
-    );
-}
-
-// An odd pair for JP or CALL.
-fn odd_pairs() {
-    encoding(b"JP @01H", Instruction::JumpAt(RegAddr(1)), 2);
-    encoding(b"CALL @01H", Instruction::CallAt(RegAddr(1)), 4);
-}
-
-// 7 comes before 8 and 12.
-fn short_buffers() {
-    encoding(b"INC R16, no room", Instruction::IncWork(16), 0);
-    encoding(
-        b"LDC R0,#1000H[RR0], 3 bytes",
-        Instruction::LdcLoadLong(0, 0, 0x1000),
-        3,
-    );
-    encoding(
-        b"LD 00H,#0, 2 bytes",
-        Instruction::LoadImm(RegAddr(0), 0),
-        2,
-    );
-    encoding(b"JP @01H, 1 byte", Instruction::JumpAt(RegAddr(1)), 1);
+fn encoding_examples() {
+    let mut n: u8 = 0;
+    while n < 14 {
+        encoding(n);
+        n += 1;
+    }
 }
 
 // Copies into the first bytes of a buffer.
@@ -443,29 +410,44 @@ fn copy_in(s: &[u8], at: usize, out: &mut [u8], room: usize) -> Copied {
     copy_instruction(s, at, &mut out[..room])
 }
 
+fn bytes(b: &[u8; 4]) {
+    byte(b[0]);
+    byte(b[1]);
+    byte(b[2]);
+    byte(b[3]);
+}
+
+fn copy_name(at: u8, room: u8) {
+    text(b"copy at");
+    number(at);
+    text(b",");
+    number(room);
+    text(b" bytes:");
+}
+
 // Copying into a buffer of this length, at most 4, and what the buffer then holds.
-fn copying(name: &[u8], s: &[u8], at: usize, room: usize) {
+fn copying(at: u8, room: u8) {
     let mut out = [0xEEu8; 4];
-    text(name);
-    text(b": ");
-    write_copied(copy_in(s, at, &mut out, room));
-    byte(out[0]);
-    byte(out[1]);
-    byte(out[2]);
-    byte(out[3]);
+    copy_name(at, room);
+    answer(copied(copy_in(
+        b"\x01\x40\xE6\xD9\xC0\xF6\x01\x20\x8B\xFB\x0A\x30\x01\xB0",
+        at as usize,
+        &mut out,
+        room as usize,
+    )));
+    bytes(&out);
     text(b"\n");
 }
 
 fn copying_examples() {
-    let s = b"\x01\x40\xE6\xD9\xC0\xF6\x01\x20\x8B\xFB\x0A\x30\x01\xB0";
-    copying(b"copy at 2", s, 2, 4);
-    copying(b"copy at 5", s, 5, 3);
-    copying(b"copy at 8", s, 8, 3);
-    copying(b"copy at 5, 2 bytes", s, 5, 2);
-    copying(b"copy at 10", s, 10, 4);
-    copying(b"copy at 11", s, 11, 4);
-    copying(b"copy at 13", s, 13, 4);
-    copying(b"copy at 14", s, 14, 4);
+    copying(2, 4);
+    copying(5, 3);
+    copying(8, 3);
+    copying(5, 2);
+    copying(10, 4);
+    copying(11, 4);
+    copying(13, 4);
+    copying(14, 4);
 }
 
 fn first_bytes() {
@@ -494,10 +476,7 @@ fn second_bytes() {
 
 fn main() {
     decoding_examples();
-    wide_fields();
-    offsets();
-    odd_pairs();
-    short_buffers();
+    encoding_examples();
     copying_examples();
     first_bytes();
     second_bytes();

@@ -16,6 +16,22 @@ pub fn put(bytes: &mut [u8], at: usize, part: &[u8]) {
     }
 }
 
+// A part so many times, one behind the other.
+pub fn put_times(bytes: &mut [u8], at: usize, part: &[u8], times: usize) {
+    let mut next = at;
+    let mut left = times;
+    while left > 0 {
+        put(bytes, next, part);
+        next = std::num::wrapping_add_usize(next, part.len());
+        left -= 1;
+    }
+}
+
+// A HEX text into a slice.
+pub fn load(bytes: &mut [u8], text: &[u8]) {
+    hex_text::read_text(text, bytes);
+}
+
 pub fn print(text: &[u8]) {
     io::write_all(STDOUT_FILENO, text);
 }

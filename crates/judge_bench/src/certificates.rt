@@ -1,125 +1,87 @@
 // Checks of a certificate.
+use crate::bytes::load;
 use crate::bytes::print;
 use crate::bytes::print_hex;
 use crate::bytes::print_number;
 use crate::bytes::put;
+use crate::bytes::put_times;
 use certificate::Verdict;
 
-// Groups of three instructions in routine 3 of the full program.
-const GROUPS: u16 = 500;
+// The entry of 0127H, the first of the groups.
+const GROUPS: usize = 14 * 0x127;
 
-// Where a certificate has its cells and its routines.
 const CELLS: usize = 0xE000;
 
-const ROUTINES: usize = 0xE300;
-
-fn put_word(cert: &mut [u8; 58498], at: usize, n: u16) {
-    put(cert, at, &[(n / 256) as u8, (n % 256) as u8]);
-}
-
-// An entry at an address, with bound B.
-fn put_entry(cert: &mut [u8; 58498], a: u16, entry: &[u8; 14], bound: u16) {
-    let at = 14 * (a as usize);
-    put(cert, at, entry);
-    put_word(cert, at + 2, bound);
-}
-
-// An entry without claims.
-fn put_plain(cert: &mut [u8; 58498], a: u16, routine: u8, depth: u8, bound: u16) {
-    put_entry(
-        cert,
-        a,
-        &[routine, depth, 0, 0, 0, 0, 255, 0, 0, 255, 0, 0, 255, 0],
-        bound,
-    );
-}
-
-// An entry of routine 3: R4 is claimed 0 to 255 and compared with 254, R2 is claimed 0 to 9FH.
-fn put_claims(cert: &mut [u8; 58498], a: u16, bound: u16) {
-    put_entry(
-        cert,
-        a,
-        b"\x03\x00\x00\x00\x01\x01\xC4\x00\xFF\xC2\x00\x9F\xC4\xFE",
-        bound,
-    );
-}
-
-// LD R3,@R2; LD @R2,R3; JR UGT,+0, whose two edges go on alike.
-fn put_group(image: &mut [u8; 4096], cert: &mut [u8; 58498], a: u16, bound: u16) {
-    put(image, a as usize, b"\xC7\x32\xD7\x23\xBB\x00");
-    put_claims(cert, a, bound);
-    put_claims(
-        cert,
-        std::num::wrapping_add_u16(a, 2),
-        std::num::wrapping_sub_u16(bound, 4),
-    );
-    put_claims(
-        cert,
-        std::num::wrapping_add_u16(a, 4),
-        std::num::wrapping_sub_u16(bound, 8),
-    );
-}
-
-// The groups, 14 cycles each, from 0127H to RET at 0CDFH.
-fn put_groups(image: &mut [u8; 4096], cert: &mut [u8; 58498]) {
-    let mut i: u16 = 0;
-    while i < GROUPS {
-        put_group(image, cert, 0x127 + 6 * i, 8 + 14 * (GROUPS - i));
-        i += 1;
-    }
-    put(image, 0xCDF, b"\xAF");
-    put_plain(cert, 0xCDF, 3, 0, 8);
-}
-
-// Table 1 is 00H to 9FH. It, R2, R3 and R4 have class 1 and writer limit 63.
-fn put_cells(cert: &mut [u8; 58498]) {
-    let mut x = 0;
-    while x < 0xA0 {
-        put(cert, CELLS + 3 * x, b"\x01\x3F\x01");
-        x += 1;
-    }
-    put(
-        cert,
-        CELLS + 3 * 0xC2,
-        b"\x01\x3F\x00\x01\x3F\x00\x01\x3F\x00",
-    );
-}
-
-// Main and service. LD SP,#C0H; CALL 0120H; JR to CALL. IRET. The stack is A0H to BFH.
+// Main and service. LD SP,#C0H; CALL 0120H; JR to CALL. IRET. Entries of 0100H, 0103H, 0106H and 0110H, two routines, and the stack, A0H to BFH.
 fn put_main(image: &mut [u8; 4096], cert: &mut [u8; 58498]) {
-    put(image, 0, b"\x01\x10");
-    put(image, 0x100, b"\xE6\xD9\xC0\xF6\x01\x20\x8B\xFB");
-    put_plain(cert, 0x100, 1, 255, 0);
-    put_plain(cert, 0x103, 1, 0, 0);
-    put_plain(cert, 0x106, 1, 0, 0);
-    put(image, 0x110, b"\xBF");
-    put_plain(cert, 0x110, 2, 0, 10);
-    put(
-        cert,
-        ROUTINES + 6,
-        b"\x01\x00\x01\x02\x00\x00\x01\x10\x02\x00\x00\x0A",
+    load(
+        image,
+        b":020000000110ED\n\
+          :08010000E6D9C0F601208BFBDB\n\
+          :01011000BF2F\n\
+          :00000001FF",
     );
-    put(cert, ROUTINES + 0x180, b"\xA0\xC0");
+    load(
+        cert,
+        b":0E0E000001FF00000000FF0000FF0000FF00E7\n\
+          :0E0E2A00010000000000FF0000FF0000FF00BC\n\
+          :0E0E5400010000000000FF0000FF0000FF0092\n\
+          :0E0EE0000200000A0000FF0000FF0000FF00FB\n\
+          :0CE3060001000102000001100200000AEA\n\
+          :02E48000A0C03A\n\
+          :00000001FF",
+    );
 }
 
-// Routine 3 up to its groups: CLR R2; CLR R4; CP R4,#FEH.
+// Routine 3 around its groups. CLR R2; CLR R4; CP R4,#FEH. RET. Entries of 0120H, 0122H, 0124H and 0CDFH, the cells R2, R3 and R4, of class 1 and
+// writer limit 63, and the routine.
 fn put_routine(image: &mut [u8; 4096], cert: &mut [u8; 58498]) {
-    put(image, 0x120, b"\xB0\xC2\xB0\xC4\xA6\xC4\xFE");
-    put_plain(cert, 0x120, 3, 0, 7277);
-    put_entry(
-        cert,
-        0x122,
-        b"\x03\x00\x00\x00\x00\x00\xC2\x00\x9F\xFF\x00\x00\xFF\x00",
-        7273,
+    load(
+        image,
+        b":07012000B0C2B0C4A6C4FE8A\n\
+          :010CDF00AF65\n\
+          :00000001FF",
     );
-    put_entry(
+    load(
         cert,
-        0x124,
-        b"\x03\x00\x00\x00\x01\x01\xC4\x00\xFF\xC2\x00\x9F\xFF\x00",
-        7014,
+        b":0E0FC00003001C6D0000FF0000FF0000FF009A\n\
+          :0E0FDC0003001C690000C2009FFF0000FF0020\n\
+          :0E0FF80003001B660101C400FFC2009FFF0042\n\
+          :0EB43200030000080000FF0000FF0000FF0004\n\
+          :09E24600013F00013F00013F000F\n\
+          :06E31200012001001C6D5A\n\
+          :00000001FF",
     );
-    put(cert, ROUTINES + 18, b"\x01\x20\x01\x00");
-    put_word(cert, ROUTINES + 22, 7277);
+}
+
+// 500 groups of LD R3,@R2; LD @R2,R3; JR UGT,+0, whose two edges go on alike. In the entries R4 is claimed 0 to 255 and compared with 254, R2 is
+// claimed 0 to 9FH. Table 1 is 00H to 9FH, of class 1 and writer limit 63.
+fn put_groups(image: &mut [u8; 4096], cert: &mut [u8; 58498]) {
+    put_times(image, 0x127, b"\xC7\x32\xD7\x23\xBB\x00", 500);
+    put_times(
+        cert,
+        GROUPS,
+        b"\x03\x00\x00\x00\x01\x01\xC4\x00\xFF\xC2\x00\x9F\xC4\xFE\0\0\0\0\0\0\0\0\0\0\0\0\0\0",
+        1500,
+    );
+    put_times(cert, CELLS, b"\x01\x3F\x01", 160);
+}
+
+fn put_bound(cert: &mut [u8; 58498], k: usize, n: u16) {
+    put(
+        cert,
+        GROUPS + 2 + 28 * (k % 1500),
+        &[(n / 256) as u8, (n % 256) as u8],
+    );
+}
+
+// The bounds in the groups: their instructions cost 4, 4 and 6, RET behind them 8.
+fn put_bounds(cert: &mut [u8; 58498]) {
+    let mut k: u16 = 0;
+    while k < 1500 {
+        put_bound(cert, k as usize, 8 + 14 * (500 - k / 3) - 4 * (k % 3));
+        k += 1;
+    }
 }
 
 // JR to itself, where the full program has CALL.
@@ -137,20 +99,19 @@ fn check_times(image: &[u8; 4096], cert: &[u8; 58498], count: u64) -> Verdict {
     verdict
 }
 
-fn tell(what: u8, v: Verdict) {
-    print_number(what as u64);
+fn tell(v: Verdict) {
     match v {
-        Verdict::Accepted => {
-            print(b" accepted\n");
-        }
-        Verdict::Refused(n, a) => {
-            print(b" refused ");
-            print_number(n as u64);
-            print(b" ");
-            print_hex(a.0 as u64, 4);
-            print(b"\n");
-        }
+        Verdict::Accepted => print(b" accepted\n"),
+        Verdict::Refused(n, a) => tell_refused(n, a.0),
     }
+}
+
+fn tell_refused(n: u8, a: u16) {
+    print(b" refused ");
+    print_number(n as u64);
+    print(b" ");
+    print_hex(a as u64, 4);
+    print(b"\n");
 }
 
 fn count_of(what: u8) -> u64 {
@@ -161,19 +122,23 @@ fn count_of(what: u8) -> u64 {
     }
 }
 
+fn fill(what: u8, image: &mut [u8; 4096], cert: &mut [u8; 58498]) {
+    if what < 3 {
+        put_main(image, cert);
+    }
+    if what == 1 {
+        put_routine(image, cert);
+        put_groups(image, cert);
+        put_bounds(cert);
+    } else if what == 2 {
+        put_loop(image);
+    }
+}
+
 // 1 is a full certificate of 1,508 entries, checked 100 times, 2 one of main and service alone, 10,000 times, 3 one of zeros, a million times.
 pub fn work(what: u8) {
     let mut image = [255u8; 4096];
     let mut cert = [0u8; 58498];
-    if what < 3 {
-        put_main(&mut image, &mut cert);
-    }
-    if what == 1 {
-        put_routine(&mut image, &mut cert);
-        put_groups(&mut image, &mut cert);
-        put_cells(&mut cert);
-    } else if what == 2 {
-        put_loop(&mut image);
-    }
-    tell(what, check_times(&image, &cert, count_of(what)));
+    fill(what, &mut image, &mut cert);
+    tell(check_times(&image, &cert, count_of(what)));
 }

@@ -6,6 +6,7 @@ mod texts;
 
 // 1 to 3 are certificates, 4 to 6 HEX texts.
 fn work(what: u8) {
+    bytes::print_number(what as u64);
     if what < 4 {
         certificates::work(what);
     } else {

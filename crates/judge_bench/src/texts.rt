@@ -31,57 +31,49 @@ fn length_of(w: Written) -> u64 {
     }
 }
 
-// The whole text at once.
-fn read_times(text: &[u8; 11276], buffer: &mut [u8; 4096], count: u64) -> u64 {
-    let mut answer: u64 = 0;
-    let mut left = count;
-    while left > 0 {
-        answer = answer_of(hex_text::read_text(text, buffer));
-        left -= 1;
-    }
-    answer
-}
-
 // The text as one piece of a file.
 fn stream(text: &[u8], buffer: &mut [u8]) -> u64 {
     let s = hex_text::feed(hex_text::start(), text, buffer);
     answer_of(hex_text::finish(s, buffer.len()))
 }
 
-fn stream_times(text: &[u8; 11276], buffer: &mut [u8; 4096], count: u64) -> u64 {
+// Reads the whole text (4), reads it by feed and finish (5), or writes it.
+fn turn(what: u8, image: &[u8; 4096], text: &mut [u8; 11276], buffer: &mut [u8; 4096]) -> u64 {
+    match what {
+        4 => answer_of(hex_text::read_text(text, buffer)),
+        5 => stream(text, buffer),
+        _ => length_of(hex_write::write_image(image, text)),
+    }
+}
+
+fn turns(
+    what: u8,
+    image: &[u8; 4096],
+    text: &mut [u8; 11276],
+    buffer: &mut [u8; 4096],
+    count: u64,
+) -> u64 {
     let mut answer: u64 = 0;
     let mut left = count;
     while left > 0 {
-        answer = stream(text, buffer);
+        answer = turn(what, image, text, buffer);
         left -= 1;
     }
     answer
 }
 
-fn write_times(image: &[u8], text: &mut [u8; 11276], count: u64) -> u64 {
-    let mut answer: u64 = 0;
-    let mut left = count;
-    while left > 0 {
-        answer = length_of(hex_write::write_image(image, text));
-        left -= 1;
-    }
-    answer
-}
-
-// Whether two images agree.
 fn same(a: &[u8; 4096], b: &[u8; 4096]) -> bool {
-    let mut i = 0;
-    while i < 4096 {
-        if a[i] != b[i] {
-            return false;
-        }
-        i += 1;
-    }
-    true
+    check::same(a, b)
 }
 
-fn tell(what: u8, answer: u64, same: bool) {
-    print_number(what as u64);
+fn count_of(what: u8) -> u64 {
+    match what {
+        6 => 20000,
+        _ => 2000,
+    }
+}
+
+fn tell(answer: u64, same: bool) {
     print(b" ");
     print_number(answer);
     if same {
@@ -96,14 +88,7 @@ pub fn work(what: u8) {
     let image = image();
     let mut text = [0u8; TEXT];
     let mut buffer = [0u8; 4096];
-    let written = write_times(&image, &mut text, if what == 6 { 20000 } else { 1 });
-    if what == 4 {
-        let answer = read_times(&text, &mut buffer, 2000);
-        tell(what, answer, same(&image, &buffer));
-    } else if what == 5 {
-        let answer = stream_times(&text, &mut buffer, 2000);
-        tell(what, answer, same(&image, &buffer));
-    } else {
-        tell(what, written, true);
-    }
+    turn(6, &image, &mut text, &mut buffer);
+    let answer = turns(what, &image, &mut text, &mut buffer, count_of(what));
+    tell(answer, (what == 6) | same(&image, &buffer));
 }

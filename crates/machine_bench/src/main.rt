@@ -58,62 +58,52 @@ fn mixed_program(image: &mut [u8; 4096]) {
     put(image, 0x180, b"\x70\xC0\xE6\xE8\x02\x0E\x50\xC0\xBF");
 }
 
-// One group of instructions in a loop.
-fn group(what: u64, image: &mut [u8; 4096]) {
-    // RET
-    put(image, 0x140, b"\xAF");
+// A group's place in the table below.
+fn row_of(what: u64) -> u8 {
     match what {
-        // LD R1,R2; LD 10H,R2; LD R3,#05H; LD 11H,10H; LD 12H,#07H; JR to the start
-        4 => put(
-            image,
-            START,
-            b"\x18\xC2\x29\x10\x3C\x05\xE4\x10\x11\xE6\x12\x07\x8B\xF2",
-        ),
-        // ADD R1,R2; ADC 11H,10H; SUB R3,#05H; OR R4,R5; AND 11H,10H; CP R4,#20H; XOR R5,R6; TM R2,#01H; JR
-        5 => put(
-            image,
-            START,
-            b"\x02\x12\x14\x10\x11\x26\xC3\x05\x42\x45\x54\x10\x11\xA6\xC4\x20\xB2\x56\x76\xC2\x01\x8B\xE9",
-        ),
-        // INC R1; DEC R2; RL R3; RR R4; RLC R5; RRC R6; SRA R7; COM R8; JR
-        6 => put(
-            image,
-            START,
-            b"\x1E\x00\xC2\x90\xC3\xE0\xC4\x10\xC5\xC0\xC6\xD0\xC7\x60\xC8\x8B\xEF",
-        ),
-        // LD R2,#10H; LD R3,@R2; LD @R2,R3; ADD R4,@R2; INC @R2; JR
-        7 => put(
-            image,
-            START,
-            b"\x2C\x10\xC7\x32\xD7\x23\x03\x42\x21\xC2\x8B\xF4",
-        ),
-        // LD R3,05H[R2]; LD 06H[R2],R3; JR
-        8 => put(image, START, b"\x87\x32\x05\x97\x32\x06\x8B\xF8"),
-        // LD SP,#C0H; PUSH R4; PUSH R5; POP R6; POP R7; JR
-        9 => put(
-            image,
-            START,
-            b"\xE6\xD9\xC0\x70\xC4\x70\xC5\x50\xC6\x50\xC7\x8B\xF3",
-        ),
-        // LD SP,#C0H; CALL 0140H; JR to CALL
-        10 => put(image, START, b"\xE6\xD9\xC0\xF6\x01\x40\x8B\xFB"),
-        // LD R4,#01H; LDC R3,@RR4; LDCI R3,@RR4; LDC R3,05H[RR4]; LDC R3,0100H; JR
-        11 => put(
-            image,
-            START,
-            b"\x4C\x01\xC3\x34\xE3\x34\xE7\x34\x05\xA7\x30\x00\x01\x8B\xF1",
-        ),
-        // JR C,+0; JR NC,+0; JR Z,+0; JR NZ,+0; JR ULE,+0; JR GT,+0; JP to the start
-        12 => put(
-            image,
-            START,
-            b"\x7B\x00\xFB\x00\x6B\x00\xEB\x00\x3B\x00\xAB\x00\x8D\x01\x00",
-        ),
-        // RCF; SCF; CCF; NOP; DI; EI; JR
-        13 => put(image, START, b"\xCF\xDF\xEF\xFF\x8F\x9F\x8B\xF8"),
-        // INC R0; ADD R1,R2; JR
-        _ => put(image, START, b"\x0E\x02\x12\x8B\xFB"),
+        4..=13 => (what - 3) as u8,
+        _ => 0,
     }
+}
+
+// A row of a table, 24 bytes, to where reset starts.
+fn put_row(image: &mut [u8; 4096], rows: &[u8], row: u8) {
+    let at = 24 * (row as usize);
+    let end = at + 24;
+    if end <= rows.len() {
+        put(image, START, &rows[at..end]);
+    }
+}
+
+// One group of instructions in a loop, and RET. The rows are filled up with the byte of the empty image.
+// Others: INC R0; ADD R1,R2; JR
+// 4: LD R1,R2; LD 10H,R2; LD R3,#05H; LD 11H,10H; LD 12H,#07H; JR to the start
+// 5: ADD R1,R2; ADC 11H,10H; SUB R3,#05H; OR R4,R5; AND 11H,10H; CP R4,#20H; XOR R5,R6; TM R2,#01H; JR
+// 6: INC R1; DEC R2; RL R3; RR R4; RLC R5; RRC R6; SRA R7; COM R8; JR
+// 7: LD R2,#10H; LD R3,@R2; LD @R2,R3; ADD R4,@R2; INC @R2; JR
+// 8: LD R3,05H[R2]; LD 06H[R2],R3; JR
+// 9: LD SP,#C0H; PUSH R4; PUSH R5; POP R6; POP R7; JR
+// 10: LD SP,#C0H; CALL 0140H; JR to CALL
+// 11: LD R4,#01H; LDC R3,@RR4; LDCI R3,@RR4; LDC R3,05H[RR4]; LDC R3,0100H; JR
+// 12: JR C,+0; JR NC,+0; JR Z,+0; JR NZ,+0; JR ULE,+0; JR GT,+0; JP to the start
+// 13: RCF; SCF; CCF; NOP; DI; EI; JR
+fn group(what: u64, image: &mut [u8; 4096]) {
+    put(image, 0x140, b"\xAF");
+    put_row(
+        image,
+        b"\x0E\x02\x12\x8B\xFB\xFF\xFF\xFF\xFF\xFF\xFF\xFF\xFF\xFF\xFF\xFF\xFF\xFF\xFF\xFF\xFF\xFF\xFF\xFF\
+          \x18\xC2\x29\x10\x3C\x05\xE4\x10\x11\xE6\x12\x07\x8B\xF2\xFF\xFF\xFF\xFF\xFF\xFF\xFF\xFF\xFF\xFF\
+          \x02\x12\x14\x10\x11\x26\xC3\x05\x42\x45\x54\x10\x11\xA6\xC4\x20\xB2\x56\x76\xC2\x01\x8B\xE9\xFF\
+          \x1E\x00\xC2\x90\xC3\xE0\xC4\x10\xC5\xC0\xC6\xD0\xC7\x60\xC8\x8B\xEF\xFF\xFF\xFF\xFF\xFF\xFF\xFF\
+          \x2C\x10\xC7\x32\xD7\x23\x03\x42\x21\xC2\x8B\xF4\xFF\xFF\xFF\xFF\xFF\xFF\xFF\xFF\xFF\xFF\xFF\xFF\
+          \x87\x32\x05\x97\x32\x06\x8B\xF8\xFF\xFF\xFF\xFF\xFF\xFF\xFF\xFF\xFF\xFF\xFF\xFF\xFF\xFF\xFF\xFF\
+          \xE6\xD9\xC0\x70\xC4\x70\xC5\x50\xC6\x50\xC7\x8B\xF3\xFF\xFF\xFF\xFF\xFF\xFF\xFF\xFF\xFF\xFF\xFF\
+          \xE6\xD9\xC0\xF6\x01\x40\x8B\xFB\xFF\xFF\xFF\xFF\xFF\xFF\xFF\xFF\xFF\xFF\xFF\xFF\xFF\xFF\xFF\xFF\
+          \x4C\x01\xC3\x34\xE3\x34\xE7\x34\x05\xA7\x30\x00\x01\x8B\xF1\xFF\xFF\xFF\xFF\xFF\xFF\xFF\xFF\xFF\
+          \x7B\x00\xFB\x00\x6B\x00\xEB\x00\x3B\x00\xAB\x00\x8D\x01\x00\xFF\xFF\xFF\xFF\xFF\xFF\xFF\xFF\xFF\
+          \xCF\xDF\xEF\xFF\x8F\x9F\x8B\xF8\xFF\xFF\xFF\xFF\xFF\xFF\xFF\xFF\xFF\xFF\xFF\xFF\xFF\xFF\xFF\xFF",
+        row_of(what),
+    );
 }
 
 fn program(what: u64) -> [u8; 4096] {
