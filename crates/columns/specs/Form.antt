@@ -1,10 +1,9 @@
 -- What a cell of the map and the bytes behind the first give.
 -- Assumes nothing.
 use Prim.Native.Nat.{ℕ, _+_, _*_, _/_, _%_}
-use mathlib.Core.List.{[], _∷_}
 use lib.Dec.{eqb, ltb}
 use Rattle.base.specs.Addresses.{regAddr, romAddr}
-use Rattle.base.specs.Choice.{pick, choose}
+use Rattle.base.specs.Choice.{pick}
 use Rattle.base.specs.Outcome.{Outcome}
 use Rattle.base.specs.Outcome.Outcome.{value, refused}
 use Rattle.isa.specs.Map.{Cell}
@@ -62,7 +61,3 @@ formOf loadWorkImm h b1 b2 b3 = found (Instruction.LoadWorkImm h b1) 2
 formOf jump h b1 b2 b3 = found (Instruction.Jump h (romAddr (b1 * 256 + b2))) 3
 formOf incWork h b1 b2 b3 = found (Instruction.IncWork h) 1
 formOf (implied p) h b1 b2 b3 = found (Instruction.Implied p) 1
-
--- the length in columns 2 to 6 of a row that has no empty cell there
-abbrev pub columnLength : ℕ → ℕ
-columnLength l = choose l ((2, 2) ∷ (3, 2) ∷ []) 3

@@ -121,8 +121,8 @@ pub fn form(first: u8, b1: u8, b2: u8, b3: u8) -> Decoded
     let low = first % 16;
     let row = first / 16;
     match low {
-        0..=1 => unary_column(low, row, b1),
-        2..=6 => alu_column(low, row, b1, b2),
+        0..=1 => unary_column(low, row, b1, b2, b3),
+        2..=6 => alu_column(low, row, b1, b2, b3),
         7 => column_7(row, b1, b2, b3),
         8..=14 => row_column(low, row, b1, b2, b3),
         _ => column_f(row, b1, b2, b3),

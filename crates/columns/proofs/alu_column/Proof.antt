@@ -12,9 +12,6 @@ enum-known-a c = search needs
 alu-form-requires : tie.Need-alu-form-requires
 alu-form-requires c κs = search needs
 
-column-length-requires : tie.Need-column-length-requires
-column-length-requires c κs = search needs
-
 enum-told : tie.Need-enum-told
 enum-told c = search needs
 
@@ -22,10 +19,10 @@ other-form-requires : tie.Need-other-form-requires
 other-form-requires c κs = search needs
 
 returns : tie.Need-returns
-returns c b3 = rw (sym (c .before .before .before .before .before .alu-row .ensures) ∙ c .before .before .before .a .given .1, c .column-length .ensures) (c .before .alu-form .ensures _ b3)
+returns c = rw (sym (c .before .before .before .before .alu-row .ensures) ∙ c .before .before .a .given .1) (c .alu-form .ensures)
 
 returns-2 : tie.Need-returns-2
-returns-2 c b3 = rw (sym (c .before .before .before .alu-row .ensures) ∙ c .before .enum-told .given .1) (c .other-form .ensures b3)
+returns-2 c = rw (sym (c .before .before .before .alu-row .ensures) ∙ c .before .enum-told .given .1) (c .other-form .ensures)
 
 pub alu-column-spec : {M : Type 1} → statement M
 alu-column-spec =
@@ -34,7 +31,6 @@ alu-column-spec =
     alu-row-requires
     enum-known-a
     alu-form-requires
-    column-length-requires
     enum-told
     other-form-requires
     returns

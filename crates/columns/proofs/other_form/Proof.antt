@@ -1,51 +1,85 @@
-use lib.Dec.{eqb}
 use borrow.Author.Tests.{ne-eqb}
-use Rattle.columns.proofs.Laws.{all-empty}
 use borrow.Author.Needs.{needs}
 use Rattle.columns.proofs.other_form.Statement.{statement}
 use Rattle.columns.proofs.other_form.Tie as tie
 
-row-c-requires : tie.Need-row-c-requires
-row-c-requires c κs = search needs
+call-at-requires : tie.Need-call-at-requires
+call-at-requires c κs = search needs
 
-row-d-requires : tie.Need-row-d-requires
-row-d-requires c κs = search needs
+mul-t38 : tie.Need-mul-t38
+mul-t38 c = search needs
 
-row-e-requires : tie.Need-row-e-requires
-row-e-requires c κs = search needs
-
-column-length-requires : tie.Need-column-length-requires
-column-length-requires c κs = search needs
-
-row-f-requires : tie.Need-row-f-requires
-row-f-requires c κs = search needs
+add-t40 : tie.Need-add-t40
+add-t40 c = search needs
 
 returns : tie.Need-returns
-returns c b3 = rw (c .before .match .keys1) (c .row-c .ensures _ b3)
+returns c = rw (c .before .match .keys1, c .match2 .keys1)
 
 returns-2 : tie.Need-returns-2
-returns-2 c b3 = rw (c .before .match .keys2) (c .row-d .ensures b3)
+returns-2 c = rw (c .before .match .keys1) (simp (ne-eqb _ _ (c .match2 .rest .1)))
 
 returns-3 : tie.Need-returns-3
-returns-3 c b3 = rw (c .before .before .match .keys3, c .column-length .ensures) (c .before .row-e .ensures b3)
+returns-3 c = rw (c .before .match .keys2, c .match3 .keys1)
 
 returns-4 : tie.Need-returns-4
-returns-4 c b3 = rw (c .before .match .keys4) (c .row-f .ensures b3)
+returns-4 c = rw (c .before .match .keys2, c .match3 .keys2)
 
 returns-5 : tie.Need-returns-5
-returns-5 c b3 = let m = c .match .rest in let l = c .before .args .low in simp (ne-eqb _ _ (m .1), ne-eqb _ _ (m .0 .1), ne-eqb _ _ (m .0 .0 .1), ne-eqb _ _ (m .0 .0 .0 .1), all-empty (eqb l 2) (eqb l 3) (eqb l 4) (eqb l 5))
+returns-5 c = rw (c .before .match .keys2, c .match3 .keys3)
+
+returns-6 : tie.Need-returns-6
+returns-6 c = rw (c .before .match .keys2) (simp (ne-eqb _ _ (c .match3 .rest .1), ne-eqb _ _ (c .match3 .rest .0 .1), ne-eqb _ _ (c .match3 .rest .0 .0 .1)))
+
+returns-7 : tie.Need-returns-7
+returns-7 c = rw (c .before .match .keys3, c .match4 .keys1)
+
+returns-8 : tie.Need-returns-8
+returns-8 c = rw (c .before .before .match .keys3, c .before .match4 .keys2) (c .call-at .ensures)
+
+returns-9 : tie.Need-returns-9
+returns-9 c = rw (c .before .match .keys3) (simp (ne-eqb _ _ (c .match4 .rest .1), ne-eqb _ _ (c .match4 .rest .0 .1)))
+
+returns-10 : tie.Need-returns-10
+returns-10 c = rw (c .before .match .keys4, c .match5 .keys1)
+
+returns-11 : tie.Need-returns-11
+returns-11 c = rw (c .before .match .keys4, c .match5 .keys2)
+
+returns-12 : tie.Need-returns-12
+returns-12 c = rw (c .before .match .keys4) (simp (ne-eqb _ _ (c .match5 .rest .1), ne-eqb _ _ (c .match5 .rest .0 .1)))
+
+returns-13 : tie.Need-returns-13
+returns-13 c = let m = c .before .match .rest in simp (ne-eqb _ _ (m .1), ne-eqb _ _ (m .0 .1), ne-eqb _ _ (m .0 .0 .1), ne-eqb _ _ (m .0 .0 .0 .1), c .match6 .keys1)
+
+returns-14 : tie.Need-returns-14
+returns-14 c = let m = c .before .match .rest in simp (ne-eqb _ _ (m .1), ne-eqb _ _ (m .0 .1), ne-eqb _ _ (m .0 .0 .1), ne-eqb _ _ (m .0 .0 .0 .1), c .match6 .keys2)
+
+returns-15 : tie.Need-returns-15
+returns-15 c = let m = c .before .match .rest in simp (ne-eqb _ _ (m .1), ne-eqb _ _ (m .0 .1), ne-eqb _ _ (m .0 .0 .1), ne-eqb _ _ (m .0 .0 .0 .1), c .match6 .keys3)
+
+returns-16 : tie.Need-returns-16
+returns-16 c = let m = c .before .match .rest in let n = c .match6 .rest in simp (ne-eqb _ _ (m .1), ne-eqb _ _ (m .0 .1), ne-eqb _ _ (m .0 .0 .1), ne-eqb _ _ (m .0 .0 .0 .1), ne-eqb _ _ (n .1), ne-eqb _ _ (n .0 .1), ne-eqb _ _ (n .0 .0 .1))
 
 pub other-form-spec : {M : Type 1} → statement M
 other-form-spec =
     tie.close
     (tie.spec
-    row-c-requires
-    row-d-requires
-    row-e-requires
-    column-length-requires
-    row-f-requires
+    call-at-requires
+    mul-t38
+    add-t40
     returns
     returns-2
     returns-3
     returns-4
-    returns-5)
+    returns-5
+    returns-6
+    returns-7
+    returns-8
+    returns-9
+    returns-10
+    returns-11
+    returns-12
+    returns-13
+    returns-14
+    returns-15
+    returns-16)

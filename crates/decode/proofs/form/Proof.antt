@@ -24,10 +24,10 @@ returns : tie.Need-returns
 returns c = rw (c .before .match .keys1) (c .column-7 .ensures)
 
 returns-2 : tie.Need-returns-2
-returns-2 c = rw (lt-ltb _ _ (c .before .if1 .taken)) (c .unary-column .ensures _ _)
+returns-2 c = rw (lt-ltb _ _ (c .before .if1 .taken)) (c .unary-column .ensures)
 
 returns-3 : tie.Need-returns-3
-returns-3 c = rw (le-ltb _ _ (c .before .before .if1 .left), lt-ltb _ _ (c .before .if2 .taken)) (c .alu-column .ensures _)
+returns-3 c = rw (le-ltb _ _ (c .before .before .if1 .left), lt-ltb _ _ (c .before .if2 .taken)) (c .alu-column .ensures)
 
 returns-4 : tie.Need-returns-4
 returns-4 c = let a = c .before .before .before .before .before .args in let h : 8 ≤ a .first % 16 = omega arith in rw (le-ltb _ _ (c .before .before .before .if1 .left), le-ltb _ _ (c .before .before .if2 .left), le-ltb _ _ h, lt-ltb _ _ (c .before .if3 .taken)) (c .row-column .ensures)
