@@ -1,5 +1,8 @@
 pub mod Addresses
+pub mod Bits
+pub mod Cells
 pub mod Choice
+pub mod ChoiceLaws
 pub mod Formula
 pub mod Lengths
 pub mod Lists

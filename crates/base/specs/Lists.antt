@@ -1,13 +1,13 @@
--- Parts of a slice, as they come back from a call that was lent them, and stores that fill a list from its front.
+-- Parts of a slice, as they come back from a call that was lent them, and stores that fill a list from its front or lie past its end.
 -- Assumes nothing.
 use Prim.Native.Nat.{ℕ, suc, _+_, _-_, _≤_, _<_}
-use mathlib.Core.Path.{_≡_}
+use mathlib.Core.Path.{_≡_, refl}
 use mathlib.Core.List.{List, [], _∷_, _++_, append-assoc, append-nil}
 use native.Mathlib.Nat.{le-of-eq}
 use native.Mathlib.Numerals.{add-one}
 use native.Mathlib.Omega.{arith}
 use lib.ListN.{length, getD, take, drop, set, length-drop, drop-of-length-le}
-use lib.Seq.{take-all, drop-cons, set-at}
+use lib.Seq.{take-all, drop-cons, set-at, set-out, sets}
 
 -- the part from n to the end
 pub part-to-end : (n : ℕ) (l : List ℕ) → take (length l - n) (drop n l) ≡ drop n l
@@ -26,3 +26,11 @@ pub store-next : (done p : List ℕ) (i v : ℕ) → length done ≡ i → i < l
     → set (done ++ drop i p) i v ≡ (done ++ (v ∷ [])) ++ drop (i + 1) p
 store-next done p i v e h =
     rw (drop-cons p i 0 h, set-at done (getD p i 0) (drop (suc i) p) v i e, add-one, append-assoc)
+
+-- one more of a run of stores, and stores past the end
+pub sets-next : (p vs : List ℕ) (k i : ℕ) → i < length vs → sets p k (drop i vs) ≡ sets (set p k (getD vs i 0)) (k + 1) (drop (i + 1) vs)
+sets-next p vs k i h = rw (drop-cons vs i 0 h, add-one k, add-one i)
+
+pub sets-out : (p vs : List ℕ) (k : ℕ) → length p ≤ k → sets p k vs ≡ p
+sets-out p [] k h = refl
+sets-out p (v ∷ vs) k h = rw (set-out p k v h) (sets-out p vs (suc k) (omega arith))

@@ -15,3 +15,7 @@ getD-from f d (suc n) i (suc k) h = getD-from f d n (suc i) k (le-of-suc-le-suc 
 pub table-at : {A : Type 0} (f : ℕ → A) (d : A) (n : ℕ) (xs : List A) → xs ≡ map f (from n 0) → (k : ℕ) → k < n
     → getD xs k d ≡ f k
 table-at f d n xs e k h = ap {B = _} (λ (l : List _). getD l k d) e ∙ (getD-from f d n 0 k h ∙ ap f (zero-add k))
+
+-- two functions with the same values at 0 to n - 1, which antt sees by computing both lists
+pub agree : {A : Type 0} (f g : ℕ → A) (d : A) (n : ℕ) → map f (from n 0) ≡ map g (from n 0) → (k : ℕ) → k < n → f k ≡ g k
+agree f g d n e k h = sym (table-at f d n (map f (from n 0)) refl k h) ∙ table-at g d n (map f (from n 0)) e k h

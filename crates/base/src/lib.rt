@@ -1,13 +1,40 @@
-// The two address spaces of the chip, an address with an offset, and a slice's byte. A register address never stands where a program address is meant.
+// The two address spaces of the chip, an address with an offset, the lengths of image, certificate and record, and a slice's byte. A register
+// address never stands where a program address is meant.
 ghost use mathlib.Core.Path.{_≡_};
 ghost use lib.ListN.{getD};
 ghost use Rattle.base.specs.Addresses.{displaced};
+ghost use Rattle.base.specs.Lengths.{isImageLength, isCertificateLength};
 
 // An address of the register file, 00H to FFH.
 pub struct RegAddr(pub u8);
 
 // An address of program memory.
 pub struct RomAddr(pub u16);
+
+// The bytes of an image, and the first address behind ROM.
+pub const IMAGE_LENGTH: usize = 4096;
+
+pub const ROM_END: u16 = IMAGE_LENGTH as u16;
+
+// The bytes of a certificate.
+pub const CERTIFICATE_LENGTH: usize = 58498;
+
+// The bytes of a schedule record.
+pub const RECORD_LENGTH: usize = 8;
+
+// Whether a slice of n bytes is an image.
+pub fn is_image_length(n: usize) -> bool
+    ensures { λ r. ⌜ r ≡ isImageLength n ⌝ }
+{
+    n == IMAGE_LENGTH
+}
+
+// Whether a slice of n bytes is a certificate.
+pub fn is_certificate_length(n: usize) -> bool
+    ensures { λ r. ⌜ r ≡ isCertificateLength n ⌝ }
+{
+    n == CERTIFICATE_LENGTH
+}
 
 // The byte at a position, 0 past the end.
 pub fn byte_at(s: &[u8], at: usize) -> u8

@@ -1,5 +1,8 @@
-// Runs the checker on the cases of the file checks.bin, and prints what differs.
+// Runs the checker on the cases of the file checks.bin, and prints what differs. A case is a byte for the profile and one for the
+// certificate's length; edits of an image of FFH, and of a certificate of 00H; and the answer that it expects.
 ghost use Prim.Native.Nat.{_<_};
+use base::CERTIFICATE_LENGTH;
+use base::IMAGE_LENGTH;
 use certificate::Verdict;
 use libc::STDOUT_FILENO;
 
@@ -13,10 +16,10 @@ enum Case {
     End,
 }
 
-// Two bytes of the file as a number, high byte first; or its end.
-enum Number {
-    Of(usize),
-    End,
+// The numbers of a case's profile and of its certificate's length.
+struct Kind {
+    profile: u8,
+    length: u8,
 }
 
 // A number, 0 for accepted, and an address.
@@ -79,20 +82,11 @@ fn read_edits(fd: i32, count: usize, bytes: &mut [u8]) {
     }
 }
 
-fn read_number(fd: i32) -> Number {
+// A number of two bytes, high byte first; 0 at the end of the file.
+fn read_number(fd: i32) -> usize {
     let mut two = [0u8; 2];
-    let n = io::read_full(fd, &mut two);
-    if n < 2 {
-        return Number::End;
-    }
-    Number::Of(size(two[0]) * 256 + size(two[1]))
-}
-
-fn count_of(n: Number) -> usize {
-    match n {
-        Number::Of(x) => x,
-        Number::End => 0,
-    }
+    io::read_full(fd, &mut two);
+    size(two[0]) * 256 + size(two[1])
 }
 
 // The answer that a case expects: number, and address with its high byte first.
@@ -111,10 +105,18 @@ fn print_answer(a: Answer) {
     print_number(a.address as u64);
 }
 
-fn report(index: u64, differ: u64, expected: Answer, given: Answer) {
+fn print_kind(kind: Kind) {
+    print(b" of profile ");
+    print_number(kind.profile as u64);
+    print(b", certificate length ");
+    print_number(kind.length as u64);
+}
+
+fn report(index: u64, differ: u64, kind: Kind, expected: Answer, given: Answer) {
     if differ < PRINTED {
         print(b"case ");
         print_number(index);
+        print_kind(kind);
         print(b": expected ");
         print_answer(expected);
         print(b", given ");
@@ -123,26 +125,40 @@ fn report(index: u64, differ: u64, expected: Answer, given: Answer) {
     }
 }
 
-// Reads one case whose image has this many edits, and compares.
-fn compare(fd: i32, count: usize, index: u64, differ: u64) -> Case {
-    let mut image = [255u8; 4096];
-    read_edits(fd, count, &mut image);
-    let mut cert = [0u8; 58498];
-    read_edits(fd, count_of(read_number(fd)), &mut cert);
+// Whether the checker has the profile and the certificate length of a case: only the first of each yet.
+fn is_supported(kind: Kind) -> bool {
+    (kind.profile == 0) & (kind.length == 0)
+}
+
+fn same_answer(a: Answer, b: Answer) -> bool {
+    (a.number == b.number) & (a.address == b.address)
+}
+
+// Reads the rest of a case, and compares.
+fn compare(fd: i32, kind: Kind, index: u64, differ: u64) -> Case {
+    let mut image = [255u8; IMAGE_LENGTH];
+    read_edits(fd, read_number(fd), &mut image);
+    let mut cert = [0u8; CERTIFICATE_LENGTH];
+    read_edits(fd, read_number(fd), &mut cert);
     let expected = read_answer(fd);
     let given = answer_of(checker::check(&image, &cert));
-    if (expected.number == given.number) & (expected.address == given.address) {
+    if is_supported(kind) & same_answer(expected, given) {
         return Case::Same;
     }
-    report(index, differ, expected, given);
+    report(index, differ, kind, expected, given);
     Case::Differs
 }
 
 fn run_case(fd: i32, index: u64, differ: u64) -> Case {
-    match read_number(fd) {
-        Number::End => Case::End,
-        Number::Of(count) => compare(fd, count, index, differ),
+    let mut two = [0u8; 2];
+    if io::read_full(fd, &mut two) == 0 {
+        return Case::End;
     }
+    let kind = Kind {
+        profile: two[0],
+        length: two[1],
+    };
+    compare(fd, kind, index, differ)
 }
 
 fn print_counts(compared: u64, differ: u64) {

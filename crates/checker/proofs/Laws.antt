@@ -18,15 +18,15 @@ use Rattle.safety.specs.Verdicts.{rulesOn, firstBroken, numberAt, scan, verdict
 use Rattle.checker.specs.declared.Holding.{Holding}
 use Rattle.checker.specs.Located.{tested}
 
-turn : (a : ℕ) → a < 4096 → 4096 - a ≡ suc (4096 - (a + 1))
+turn : (a : ℕ) → a < romLength → romLength - a ≡ suc (romLength - (a + 1))
 turn a h = omega arith
 
-module _ (C : Certificate) (image : List ℕ) (a : ℕ) (h : a < 4096) where
-  pub scan-on : numberAt C image a ≡ 0 → scan C image (4096 - a) a ≡ scan C image (4096 - (a + 1)) (a + 1)
+module _ (C : Certificate) (image : List ℕ) (a : ℕ) (h : a < romLength) where
+  pub scan-on : numberAt C image a ≡ 0 → scan C image (romLength - a) a ≡ scan C image (romLength - (a + 1)) (a + 1)
   unfolding scan
   scan-on z = ap (λ (n : ℕ). scan C image n a) (turn a h) ∙ rw (scan, eq-eqb (numberAt C image a) 0 z)
 
-  pub scan-stop : (numberAt C image a ≡ 0 → ⊥) → scan C image (4096 - a) a ≡ Refused (numberAt C image a) (romAddr a)
+  pub scan-stop : (numberAt C image a ≡ 0 → ⊥) → scan C image (romLength - a) a ≡ Refused (numberAt C image a) (romAddr a)
   unfolding scan
   scan-stop z = ap (λ (n : ℕ). scan C image n a) (turn a h) ∙ rw (scan, ne-eqb (numberAt C image a) 0 z)
 

@@ -1,5 +1,6 @@
 // The certificate checker.
 ghost use mathlib.Core.Path.{_≡_};
+ghost use Rattle.base.specs.Lengths.{romLength};
 ghost use Rattle.base.specs.Outcome.Outcome.{refused};
 ghost use Rattle.certificate.specs.Layout.{certificateOf};
 ghost use Rattle.safety.specs.Verdicts.{costAt, rulesOn, rulesAt, firstBroken, numberAt, scan, verdictOf};
@@ -130,10 +131,10 @@ fn number_at(image: &[u8], cert: &[u8], a: RomAddr) -> u8
 
 // The lowest address with a broken rule, and there the lowest number.
 fn first_refusal(image: &[u8], cert: &[u8]) -> Verdict
-    ensures { λ r. ⌜ r ≡ scan (certificateOf (now (cert .entry))) (now (image .entry)) 4096 0 ⌝ }
+    ensures { λ r. ⌜ r ≡ scan (certificateOf (now (cert .entry))) (now (image .entry)) romLength 0 ⌝ }
 {
     let mut a: u16 = 0;
-    while a < 4096 {
+    while a < base::ROM_END {
         let n = number_at(image, cert, RomAddr(a));
         if n != 0 {
             return Verdict::Refused(n, RomAddr(a));
@@ -150,10 +151,10 @@ pub fn check(image: &[u8], cert: &[u8]) -> Verdict
     ensures answer { λ r. ⌜ answered r ≡ answered (verdictOf (now (image .entry)) (now (cert .entry))) ⌝ }
     ensures safe { λ r. ⌜ (r ≡ Accepted → Demand3 (certificateOf (now (cert .entry))) (now (image .entry))) ⌝ }
 {
-    if image.len() != 4096 {
+    if !base::is_image_length(image.len()) {
         return Verdict::Refused(7, RomAddr(0));
     }
-    if cert.len() != 58498 {
+    if !base::is_certificate_length(cert.len()) {
         return Verdict::Refused(7, RomAddr(0));
     }
     if !rule20::rule20(image, cert) {

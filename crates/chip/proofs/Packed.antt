@@ -5,7 +5,7 @@ use mathlib.Core.Bool.{Bool, true}
 use Prim.Native.Nat.{ℕ, _%_, _/_, _*_, _-_, _^_, _<_}
 use lib.Dec.{eqb, ltb}
 use Rattle.base.specs.Choice.{pick}
-use Rattle.chip.specs.Cases.{agree}
+use Rattle.base.specs.Table.{agree}
 use Rattle.chip.specs.Registers.{keptBits, mappedOf}
 use Rattle.chip.specs.Words.{keptWord}
 

@@ -11,8 +11,8 @@ use lib.Bits.{bitAnd, bitOr, or-lt, and-high}
 use lib.ListN.{length, getD, length-set}
 use lib.Seq.{getD-set-other}
 use Rattle.base.specs.Choice.{pick}
-use Rattle.chip.specs.Bits.{and-or}
-use Rattle.chip.specs.Cells.{Cells, Bytes, set-cells}
+use Rattle.base.specs.Bits.{and-or}
+use Rattle.base.specs.Cells.{Cells, Bytes, set-cells}
 use Rattle.chip.specs.Registers.{keptBits, mappedOf, writtenOf, keptOf, storeOf}
 use Rattle.chip.specs.Interrupts.{interruptsEnabled, setInterruptsOf, raiseOf, postOf}
 use Rattle.chip.specs.Laws.{Kept, KeptOnly, store-length, store-other, store-same, store-bytes, store-kept}

@@ -12,10 +12,11 @@ use lib.Dec.{ltb, eqb}
 use lib.Bits.{bitAnd, bitOr, and-le-l, and-le-r, and-zero-r, or-zero-r}
 use lib.ListN.{length, getD, length-set}
 use lib.Seq.{getD-set-same, getD-set-other, set-getD}
-use Rattle.base.specs.Choice.{pick, choose, from}
-use Rattle.chip.specs.Bits.{and-assoc, and-or, and-twice, and-byte}
-use Rattle.chip.specs.Cases.{pick-has, choose-has, choose-other, agree, count}
-use Rattle.chip.specs.Cells.{Cells, Bytes, set-cells}
+use Rattle.base.specs.Bits.{and-assoc, and-or, and-twice, and-byte}
+use Rattle.base.specs.Cells.{Cells, Bytes, set-cells}
+use Rattle.base.specs.Choice.{pick, choose, from, count}
+use Rattle.base.specs.ChoiceLaws.{pick-has, choose-has, choose-other}
+use Rattle.base.specs.Table.{agree}
 use Rattle.chip.specs.Registers.{keptRows, keptBits, readOnly, testRegister, mappedOf, inputRows, loadOf, writtenF7, writtenRows, writtenOf, keptOf, storeOf}
 
 -- every mapped cell holds only bits that it keeps

@@ -1,6 +1,3 @@
-pub mod Bits
-pub mod Cases
-pub mod Cells
 pub mod InterruptLaws
 pub mod Interrupts
 pub mod Laws

@@ -3,12 +3,12 @@
 use mathlib.Core.Path.{_≡_, refl}
 use mathlib.Core.Bool.{false}
 use mathlib.Core.List.{List, [], _∷_}
-use Prim.Native.Nat.{ℕ, zero, suc, _<_}
+use Prim.Native.Nat.{ℕ, _<_}
 use native.Mathlib.Omega.{arith}
 use lib.Bits.{bitAnd}
-use lib.ListN.{length, getD, set, replicate}
-use Rattle.chip.specs.Cases.{Each}
-use Rattle.chip.specs.Cells.{Cells, Bytes, set-cells}
+use lib.ListN.{length, set, replicate}
+use Rattle.base.specs.Cells.{Cells, Bytes, filled-cells, set-cells}
+use Rattle.base.specs.ChoiceLaws.{Each}
 use Rattle.chip.specs.Registers.{keptBits}
 use Rattle.chip.specs.Interrupts.{interruptsEnabled}
 use Rattle.chip.specs.Reset.{resetRows, storedOver, resetRegisters}
@@ -18,11 +18,6 @@ stored-cells : (P : ℕ → ℕ → Type 0) (rows : List (ℕ × ℕ)) (regs : L
 stored-cells P [] regs h c = c
 stored-cells P (e ∷ r) regs h c = stored-cells P r (set regs (e .0) (e .1)) (h .1) (set-cells P regs (e .0) (e .1) c (h .0))
 
-zero-cell : (n k : ℕ) → getD {A = ℕ} (replicate n 0) k 0 ≡ 0
-zero-cell zero k = refl
-zero-cell (suc n) zero = refl
-zero-cell (suc n) (suc k) = zero-cell n k
-
 pub reset-length : length resetRegisters ≡ 256
 unfolding resetRegisters
 reset-length = refl
@@ -30,13 +25,14 @@ reset-length = refl
 pub reset-bytes : Bytes resetRegisters
 unfolding resetRegisters
 reset-bytes =
-    stored-cells (λ (k x : ℕ). x < 256) resetRows (replicate 256 0) (omega arith) (λ (k : ℕ). rw (zero-cell 256 k) (omega arith))
+    stored-cells (λ (k x : ℕ). x < 256) resetRows (replicate 256 0) (omega arith)
+    (filled-cells (λ (k x : ℕ). x < 256) 256 0 (λ (k : ℕ). omega arith) (λ (k : ℕ). omega arith))
 
 pub reset-kept : KeptOnly resetRegisters
 unfolding resetRegisters keptBits
 reset-kept a _ =
-    stored-cells (λ (k x : ℕ). bitAnd x (keptBits k) ≡ x) resetRows (replicate 256 0) (omega arith)
-    (λ (k : ℕ). rw (zero-cell 256 k)) a
+    let P : ℕ → ℕ → Type 0 = λ (k x : ℕ). bitAnd x (keptBits k) ≡ x in
+    stored-cells P resetRows (replicate 256 0) (omega arith) (filled-cells P 256 0 (λ (k : ℕ). refl) (λ (k : ℕ). refl)) a
 
 pub reset-enabled : interruptsEnabled resetRegisters ≡ false
 unfolding interruptsEnabled resetRegisters

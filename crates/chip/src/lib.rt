@@ -6,6 +6,9 @@ ghost use Rattle.chip.specs.Reset.{resetRegisters};
 ghost use Rattle.chip.specs.Words.{keptWord};
 use base::RegAddr;
 
+// The inputs of a step: the bytes of its schedule record.
+pub type Inputs = [u8; base::RECORD_LENGTH];
+
 // Whether a is RAM or a control register.
 pub fn mapped(a: RegAddr) -> bool
     ensures { λ r. ⌜ r ≡ mappedOf (a .0) ⌝ }
@@ -41,7 +44,7 @@ fn kept_bits(n: u8) -> u8
 }
 
 // What a step with schedule record rec reads at a.
-pub fn load(regs: &[u8; 256], rec: &[u8; 8], a: RegAddr) -> u8
+pub fn load(regs: &[u8; 256], rec: &Inputs, a: RegAddr) -> u8
     ensures { λ r. ⌜ r ≡ loadOf (now (regs .entry)) (now (rec .entry)) (a .0) ⌝ }
 {
     let n = a.0;

@@ -76,7 +76,7 @@ pub fn entry_part(cert: &[u8], a: RomAddr) -> &[u8]
     ensures part { λ r. ⌜ now r ≡ entryPart (now (cert .entry)) (a .0) ⌝ }
     ensures fields { λ r. ⌜ entryFrom (now r) ≡ entryOf (certificateOf (now (cert .entry))) (a .0) ⌝ }
 {
-    if a.0 < 4096 {
+    if a.0 < base::ROM_END {
         return piece(cert, 14 * a.0 as usize, 14);
     }
     &cert[0..0]

@@ -12,6 +12,7 @@ use action::Operand;
 use alu::FlagUpdate;
 use base::RegAddr;
 use base::RomAddr;
+use chip::Inputs;
 use isa::Alu;
 use isa::Unary;
 use semantics::Mode;
@@ -37,7 +38,7 @@ fn store_if(regs: &mut [u8; 256], on: bool, a: RegAddr, v: u8)
 }
 
 // ADD, ADC, SUB, SBC, OR, AND, XOR; TCM, TM, CP.
-fn binary(op: Alu, d: Operand, s: Operand, regs: &mut [u8; 256], rec: &[u8; 8], pc: RomAddr) -> Next
+fn binary(op: Alu, d: Operand, s: Operand, regs: &mut [u8; 256], rec: &Inputs, pc: RomAddr) -> Next
     ensures regs { λ _. ⌜ now (regs .exit) ≡ binaryOf op d s (now (regs .entry)) (now (rec .entry)) pc .regs ⌝ }
     ensures next { λ r. ⌜ r ≡ binaryOf op d s (now (regs .entry)) (now (rec .entry)) pc .next ⌝ }
 {
@@ -54,7 +55,7 @@ fn binary(op: Alu, d: Operand, s: Operand, regs: &mut [u8; 256], rec: &[u8; 8], 
 }
 
 // INC, DEC, COM, CLR, RL, RLC, RR, RRC, SRA.
-fn modify(op: Unary, d: Operand, regs: &mut [u8; 256], rec: &[u8; 8], pc: RomAddr) -> Next
+fn modify(op: Unary, d: Operand, regs: &mut [u8; 256], rec: &Inputs, pc: RomAddr) -> Next
     ensures regs { λ _. ⌜ now (regs .exit) ≡ modifyOf op d (now (regs .entry)) (now (rec .entry)) pc .regs ⌝ }
     ensures next { λ r. ⌜ r ≡ modifyOf op d (now (regs .entry)) (now (rec .entry)) pc .next ⌝ }
 {
@@ -70,7 +71,7 @@ fn modify(op: Unary, d: Operand, regs: &mut [u8; 256], rec: &[u8; 8], pc: RomAdd
 }
 
 // LD.
-fn load(d: Operand, s: Operand, regs: &mut [u8; 256], rec: &[u8; 8], pc: RomAddr) -> Next
+fn load(d: Operand, s: Operand, regs: &mut [u8; 256], rec: &Inputs, pc: RomAddr) -> Next
     ensures regs { λ _. ⌜ now (regs .exit) ≡ loadInto d s (now (regs .entry)) (now (rec .entry)) pc .regs ⌝ }
     ensures next { λ r. ⌜ r ≡ loadInto d s (now (regs .entry)) (now (rec .entry)) pc .next ⌝ }
 {
@@ -82,7 +83,7 @@ fn load(d: Operand, s: Operand, regs: &mut [u8; 256], rec: &[u8; 8], pc: RomAddr
 }
 
 // The address that LDC reads.
-fn code_address(from: CodeAddress, regs: &[u8; 256], rec: &[u8; 8]) -> u16
+fn code_address(from: CodeAddress, regs: &[u8; 256], rec: &Inputs) -> u16
     ensures { λ r. ⌜ r ≡ codeAddress from (now (regs .entry)) (now (rec .entry)) ⌝ }
 {
     match from {
@@ -98,7 +99,7 @@ fn load_code(
     from: CodeAddress,
     image: &[u8],
     regs: &mut [u8; 256],
-    rec: &[u8; 8],
+    rec: &Inputs,
     pc: RomAddr,
 ) -> Next
     ensures regs { λ _. ⌜ now (regs .exit) ≡ loadCodeOf d from (now (image .entry)) (now (regs .entry)) (now (rec .entry)) pc .regs ⌝ }
@@ -117,7 +118,7 @@ fn unit(up: bool) -> u16
 }
 
 // A pair counts up or down.
-fn step_pair(regs: &mut [u8; 256], rec: &[u8; 8], p: RegAddr, up: bool)
+fn step_pair(regs: &mut [u8; 256], rec: &Inputs, p: RegAddr, up: bool)
     ensures { λ _. ⌜ now (regs .exit) ≡ steppedPair (now (regs .entry)) (now (rec .entry)) (p .0) up ⌝ }
 {
     let w = std::num::wrapping_add_u16(operands::word_at(regs, rec, p), unit(up));
@@ -132,7 +133,7 @@ fn load_code_step(
     up: bool,
     image: &[u8],
     regs: &mut [u8; 256],
-    rec: &[u8; 8],
+    rec: &Inputs,
     pc: RomAddr,
 ) -> Next
     ensures regs { λ _. ⌜ now (regs .exit) ≡ loadCodeStepOf d p up (now (image .entry)) (now (regs .entry)) (now (rec .entry)) pc .regs ⌝ }
@@ -158,7 +159,7 @@ fn jump(cc: u8, to: RomAddr, regs: &[u8; 256], pc: RomAddr) -> Next
     operands::goes_on(true, pick_address(alu::condition(cc, regs[0xD5]), to, pc))
 }
 
-fn jump_pair(p: RegAddr, regs: &[u8; 256], rec: &[u8; 8]) -> Next
+fn jump_pair(p: RegAddr, regs: &[u8; 256], rec: &Inputs) -> Next
     ensures { λ r. ⌜ r ≡ jumpPairOf p (now (regs .entry)) (now (rec .entry)) .next ⌝ }
 {
     operands::goes_on(
@@ -216,7 +217,7 @@ pub fn execute(
     action: Action,
     image: &[u8],
     regs: &mut [u8; 256],
-    rec: &[u8; 8],
+    rec: &Inputs,
     pc: RomAddr,
 ) -> Next
     ensures regs { λ _. ⌜ now (regs .exit) ≡ executeOf action (now (image .entry)) (now (regs .entry)) (now (rec .entry)) pc .regs ⌝ }

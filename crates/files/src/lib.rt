@@ -79,16 +79,16 @@ fn read_file(name: &[u8], buffer: &mut [u8]) -> Text
     answer
 }
 
-fn blank_image() -> [u8; 4096]
+fn blank_image() -> [u8; base::IMAGE_LENGTH]
     ensures { λ r. ⌜ r ≡ blankImage ⌝ }
 {
-    [0xFF; 4096]
+    [0xFF; base::IMAGE_LENGTH]
 }
 
-fn blank_certificate() -> [u8; 58498]
+fn blank_certificate() -> [u8; base::CERTIFICATE_LENGTH]
     ensures { λ r. ⌜ r ≡ blankCertificate ⌝ }
 {
-    [0; 58498]
+    [0; base::CERTIFICATE_LENGTH]
 }
 
 // Reads an image file and a certificate file by their names, and writes the text of their judgement at the front of a buffer.

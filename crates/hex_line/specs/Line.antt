@@ -8,7 +8,7 @@ use lib.Dec.{eqb, leb}
 use Rattle.base.specs.Choice.{pick}
 use Rattle.base.specs.Outcome.{Outcome, andThen, onOutcome}
 use Rattle.base.specs.Outcome.Outcome.{value, refused}
-use Rattle.base.specs.Lengths.{romLength, certificateLength}
+use Rattle.base.specs.Lengths.{isImageLength, isCertificateLength}
 use Rattle.hex_line.specs.Record.{countOf, addressOf, dataOf, parseBody, bodyOf}
 use Rattle.hex_line.specs.declared.Reader.{Reader}
 use Rattle.hex_line.specs.declared.Fields.{Fields}
@@ -17,7 +17,7 @@ use Rattle.hex_line.specs.declared.Line.{Line}
 
 -- whether a lent buffer has one of them
 abbrev pub bufferLength : ℕ → Bool
-bufferLength n = pick (eqb n romLength) true (eqb n certificateLength)
+bufferLength n = pick (isImageLength n) true (isCertificateLength n)
 
 -- before the first line
 abbrev pub begun : Reader

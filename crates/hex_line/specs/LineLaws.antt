@@ -11,6 +11,7 @@ use lib.Seq.{length-take-le}
 use lib.Dec.{eqb, ltb, leb}
 use borrow.Author.Tests.{eqb-true, leb-true}
 use Rattle.base.specs.Choice.{pick}
+use Rattle.base.specs.ChoiceLaws.{pick-has}
 use Rattle.base.specs.Outcome.{Outcome, andThen, onOutcome}
 use Rattle.base.specs.Outcome.Outcome.{value, refused}
 use Rattle.hex_line.specs.declared.Reader.{Reader}
@@ -38,34 +39,29 @@ abbrev Within : ℕ → ℕ → Outcome Reader → Type 0
 Within end size (value next) = (end ≤ size) × (next .ended ≡ true → end ≡ 0)
 Within end size (refused n) = 0 < n
 
-within-pick : (end size : ℕ) (t : Bool) (x y : Outcome Reader) → (t ≡ true → Within end size x) → (t ≡ false → Within end size y)
-    → Within end size (pick t x y)
-within-pick end size true x y p q = p refl
-within-pick end size false x y p q = q refl
-
 module _ (reader : Reader) (size : ℕ) (f : Fields) where
   abbrev end : ℕ
   end = f .address + f .count
 
   within-end : Within end size (readEnd reader f)
   within-end =
-      within-pick end size (eqb (f .count) 0) _ _
-      (λ c. within-pick end size (eqb (f .address) 0) _ _
-      (λ a. within-pick end size (eqb (f .sum) 0) _ _
+      pick-has (Within end size) (eqb (f .count) 0) _ _
+      (λ c. pick-has (Within end size) (eqb (f .address) 0) _ _
+      (λ a. pick-has (Within end size) (eqb (f .sum) 0) _ _
       (λ s. let z : end ≡ 0 = omega (arith, eqb-true (f .count) 0 c, eqb-true (f .address) 0 a) in (omega arith, λ e. z)) (λ s. omega arith)) (λ a. omega arith))
       (λ c. omega arith)
 
   within-data : Within end size (readData reader size f)
   within-data =
-      within-pick end size (eqb (f .sum) 0) _ _
-      (λ s. within-pick end size (eqb (f .kind) 0) _ _
-      (λ k. within-pick end size (leb (reader .next) (f .address)) _ _
-      (λ a. within-pick end size (leb end size) (value (record { next = end; ended = false })) (refused 5)
+      pick-has (Within end size) (eqb (f .sum) 0) _ _
+      (λ s. pick-has (Within end size) (eqb (f .kind) 0) _ _
+      (λ k. pick-has (Within end size) (leb (reader .next) (f .address)) _ _
+      (λ a. pick-has (Within end size) (leb end size) (value (record { next = end; ended = false })) (refused 5)
       (λ e. (leb-true (f .address + f .count) size e, λ d. absurd (false≢true d))) (λ e. omega arith)) (λ a. omega arith)) (λ k. omega arith))
       (λ s. omega arith)
 
   within-fields : Within end size (readFields reader size f)
-  within-fields = within-pick end size (eqb (f .kind) 1) _ _ (λ k. within-end) (λ k. within-data)
+  within-fields = pick-has (Within end size) (eqb (f .kind) 1) _ _ (λ k. within-end) (λ k. within-data)
 
   within-parsed : (a b c : Bool)
       → Within end size (andThen (pick a (pick b (pick c (value f) (refused 1)) (refused 1)) (refused 1)) (readFields reader size))
@@ -80,8 +76,8 @@ unfolding readLine parseBody fieldsOf
 within-line reader size l =
     let b = bodyOf l in
     let end = addressOf b + countOf b in
-    within-pick end size (bufferLength size) _ _
-    (λ e. within-pick end size (reader .ended) _ _ (λ d. omega arith)
+    pick-has (Within end size) (bufferLength size) _ _
+    (λ e. pick-has (Within end size) (reader .ended) _ _ (λ d. omega arith)
     (λ d. within-parsed reader size (fieldsOf b) (eqb (getD b 0 0) 58) (eqb (length b) (countOf b * 2 + 11))
     (ltb (sumOf b (countOf b + 5)) 256)))
     (λ e. omega arith)

@@ -7,10 +7,6 @@ ghost use Rattle.hex_line.specs.Record.{digitOf, joined, pairAt, added, 
 ghost use Rattle.hex_line.specs.Line.{bufferLength, begun, faultNumber, lineOutcome, readFields, readLine, stored, lineBuffer};
 use base::byte_at;
 
-const IMAGE_LENGTH: usize = 4096;
-
-const CERTIFICATE_LENGTH: usize = 58498;
-
 // Where the last record ended, and whether the end line was read.
 pub struct Reader {
     pub next: usize,
@@ -76,10 +72,10 @@ pub fn number(fault: Fault) -> u8
 pub fn is_buffer_length(n: usize) -> bool
     ensures { λ r. ⌜ r ≡ bufferLength n ⌝ }
 {
-    if n == IMAGE_LENGTH {
+    if base::is_image_length(n) {
         return true;
     }
-    n == CERTIFICATE_LENGTH
+    base::is_certificate_length(n)
 }
 
 // The value of a hexadecimal digit of either letter case, 16 of another character.

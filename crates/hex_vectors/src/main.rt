@@ -1,7 +1,9 @@
 // Runs the HEX readers and the writer on worked examples and on the cases of the file hex.bin, and prints what differs.
 ghost use Prim.Native.Nat.{_<_, _≤_};
 ghost use lib.ListN.{length};
+use base::IMAGE_LENGTH;
 use hex_text::Text;
+use hex_write::TEXT_LENGTH;
 use hex_write::Written;
 use libc::STDOUT_FILENO;
 
@@ -95,8 +97,8 @@ fn read_edits(fd: i32, count: usize, image: &mut [u8]) {
 
 // Prints both answers to a text as an image file, and the text.
 fn example(text: &[u8]) {
-    let mut whole = [255u8; 4096];
-    let mut pieces = [255u8; 4096];
+    let mut whole = [255u8; IMAGE_LENGTH];
+    let mut pieces = [255u8; IMAGE_LENGTH];
     print_number(wide(text_number(hex_text::read_text(text, &mut whole))));
     print(b" ");
     print_number(wide(read_pieces(text, 1, &mut pieces)));
@@ -107,8 +109,8 @@ fn example(text: &[u8]) {
 
 // Prints the answer to a file that is one data line without LF, and whether the image is as it was.
 fn example_without_end() {
-    let kept = [255u8; 4096];
-    let mut image = [255u8; 4096];
+    let kept = [255u8; IMAGE_LENGTH];
+    let mut image = [255u8; IMAGE_LENGTH];
     print_number(wide(read_pieces(b":020100008FFF6F", 1, &mut image)));
     if check::same(&image, &kept) {
         print(b" image unchanged\n");
@@ -119,8 +121,8 @@ fn example_without_end() {
 
 // Prints the answers for an image of 4095 bytes.
 fn example_of_length() {
-    let mut image = [255u8; 4095];
-    let mut out = [0u8; 11276];
+    let mut image = [255u8; IMAGE_LENGTH - 1];
+    let mut out = [0u8; TEXT_LENGTH];
     print_number(wide(text_number(hex_text::read_text(b":00000001FF", &mut image))));
     print(b" ");
     print_number(wide(read_pieces(b":00000001FF", 1, &mut image)));
@@ -147,14 +149,14 @@ fn fill(image: &mut [u8]) {
 
 // Writes an image, prints its length, its second record and the end line, and reads it back.
 fn write_and_read() {
-    let mut image = [0u8; 4096];
+    let mut image = [0u8; IMAGE_LENGTH];
     fill(&mut image);
-    let mut out = [0u8; 11276];
+    let mut out = [0u8; TEXT_LENGTH];
     print_number(written_number(hex_write::write_image(&image, &mut out)));
     print(b" bytes\n");
     print(&out[44..88]);
-    print(&out[11264..]);
-    let mut back = [0u8; 4096];
+    print(&out[TEXT_LENGTH - 12..]);
+    let mut back = [0u8; IMAGE_LENGTH];
     print_number(wide(text_number(hex_text::read_text(&out, &mut back))));
     if check::same(&image, &back) {
         print(b" read back\n");
@@ -167,9 +169,9 @@ fn write_and_read() {
 fn agrees(text: &[u8], number: u8, expected: &[u8], step: usize) -> bool
     requires { ⌜ 0 < step ⌝ }
 {
-    let kept = [255u8; 4096];
-    let mut pieces = [255u8; 4096];
-    let mut whole = [255u8; 4096];
+    let kept = [255u8; IMAGE_LENGTH];
+    let mut pieces = [255u8; IMAGE_LENGTH];
+    let mut whole = [255u8; IMAGE_LENGTH];
     let piece_number = read_pieces(text, step, &mut pieces);
     let whole_number = text_number(hex_text::read_text(text, &mut whole));
     let numbers = (piece_number == number) & (whole_number == number);
@@ -210,7 +212,7 @@ fn compare(fd: i32, text: &mut [u8], length: usize, index: u64) -> bool {
     let got = io::read_full(fd, &mut text[..length]);
     let number = read_byte(fd);
     let count = length_of(read_number(fd));
-    let mut expected = [255u8; 4096];
+    let mut expected = [255u8; IMAGE_LENGTH];
     read_edits(fd, count, &mut expected);
     let step = (index % 61 + 1) as usize;
     agrees(&text[..length], number, &expected, step) & (got == length)

@@ -7,7 +7,7 @@ use lib.Dec.{eqb, ltb}
 use Rattle.base.specs.Choice.{pick}
 use Rattle.base.specs.Outcome.{Outcome, onOutcome}
 use Rattle.base.specs.Outcome.Outcome.{value, refused}
-use Rattle.base.specs.Lengths.{romLength}
+use Rattle.base.specs.Lengths.{romLength, isImageLength}
 use Rattle.hex_write.specs.declared.Written.{Written}
 
 -- an upper-case digit
@@ -46,8 +46,12 @@ records m (suc k) = records m k ++ recordLine m k
 abbrev pub endLine : List ℕ
 endLine = 58 ∷ 48 ∷ 48 ∷ 48 ∷ 48 ∷ 48 ∷ 48 ∷ 48 ∷ 49 ∷ 70 ∷ 70 ∷ 10 ∷ []
 
+-- the records of an image, 16 bytes each
+abbrev pub recordCount : ℕ
+recordCount = romLength / 16
+
 unfoldable pub imageText : List ℕ → List ℕ
-imageText m = records m 256 ++ endLine
+imageText m = records m recordCount ++ endLine
 
 abbrev pub textLength : ℕ
 textLength = 11276
@@ -58,7 +62,7 @@ writtenOutcome Written.WrongLength = refused 7
 
 -- 7: an image of another length, or too short a buffer
 unfoldable pub writeAnswer : ℕ → ℕ → Outcome ℕ
-writeAnswer size room = pick (eqb size romLength) (pick (ltb room textLength) (refused 7) (value textLength)) (refused 7)
+writeAnswer size room = pick (isImageLength size) (pick (ltb room textLength) (refused 7) (value textLength)) (refused 7)
 
 -- the buffer behind it: the text at its front, unchanged where it is refused
 unfoldable pub writeBuffer : List ℕ → List ℕ → List ℕ

@@ -9,7 +9,7 @@ use lib.ListN.{length, take, drop, set, length-append}
 use lib.Seq.{take-at, drop-at, drop-drop}
 use native.Mathlib.Nat.{not-suc-le-zero}
 use Rattle.base.specs.Lists.{store-next, part-back}
-use Rattle.hex_write.specs.ImageText.{hexDigit, headByte, headSum, recordByte, digits, recordLine, records, endLine, imageText}
+use Rattle.hex_write.specs.ImageText.{hexDigit, headByte, headSum, recordByte, digits, recordLine, records, endLine, recordCount, imageText, textLength}
 
 pub headSum-more : (m : List ℕ) (k i : ℕ) → headSum m k (i + 1) ≡ (headSum m k i + headByte m k i) % 256
 unfolding headSum
@@ -39,9 +39,9 @@ unfolding records
 length-records m zero = refl
 length-records m (suc k) = omega (arith, length-append (records m k) (recordLine m k), length-records m k, length-recordLine m k)
 
-pub length-imageText : (m : List ℕ) → length (imageText m) ≡ 11276
+pub length-imageText : (m : List ℕ) → length (imageText m) ≡ textLength
 unfolding imageText
-length-imageText m = omega (arith, length-append (records m 256) endLine, length-records m 256)
+length-imageText m = omega (arith, length-append (records m recordCount) endLine, length-records m recordCount)
 
 -- two stores right behind what is written
 pub store-two : (done p : List ℕ) (i i₁ i₂ v w : ℕ) → length done ≡ i → i₁ ≡ i + 1 → i₂ ≡ i + 2 → i + 1 < length p

@@ -10,7 +10,7 @@ use lib.Dec.{eqb, ltb}
 use lib.ListN.{length, getD, take, drop, length-append, length-drop, List·getD-append, drop-of-length-le}
 use lib.Seq.{getD-append-add, getD-at, take-at, drop-at, drop-drop, take-suc, getD-drop, take-all, take-add, length-take-le}
 use borrow.Author.Tests.{ltb-true, ltb-false, ne-eqb, lt-ltb, le-ltb, le-leb}
-use Rattle.base.specs.Choice.{pick}
+use Rattle.base.specs.ChoiceLaws.{pick-has}
 use Rattle.base.specs.Outcome.{Outcome}
 use Rattle.base.specs.Outcome.Outcome.{value, refused}
 use Rattle.base.specs.Lengths.{romLength}
@@ -21,7 +21,7 @@ use Rattle.hex_line.specs.declared.Reader.{Reader}
 use Rattle.hex_line.specs.declared.Fields.{Fields}
 use Rattle.hex_text.specs.Text.{lines, linesAnswer, linesBuffer, textAnswer, textBuffer}
 use Rattle.hex_text.specs.TextLaws.{Plain, plain-append, first-line}
-use Rattle.hex_write.specs.ImageText.{hexDigit, headByte, headSum, recordByte, digits, recordLine, records, endLine, imageText, textLength}
+use Rattle.hex_write.specs.ImageText.{hexDigit, headByte, headSum, recordByte, digits, recordLine, records, endLine, recordCount, imageText, textLength}
 use Rattle.hex_write.specs.ImageTextLaws.{digits-more, length-digits, length-imageText}
 
 -- a digit is read as it was written
@@ -60,10 +60,6 @@ byte-hex b h =
     let z : b / 16 * 16 + b % 16 ≡ b = omega arith in
     rw (digit-hex (b / 16) hi, digit-hex (b % 16) lo, lt-ltb _ _ hi, lt-ltb _ _ lo, z)
 
-pick-lt : (t : Bool) (a b n : ℕ) → a < n → b < n → pick t a b < n
-pick-lt true a b n p q = p
-pick-lt false a b n p q = q
-
 -- two digits behind p
 pair-behind : (p rest : List ℕ) (h l i : ℕ) → length p ≡ i → pairAt (p ++ (h ∷ l ∷ rest)) i ≡ joined (digitOf h) (digitOf l)
 unfolding pairAt
@@ -87,23 +83,20 @@ mixed-length : (m m₀ : List ℕ) (size n : ℕ) → length m ≡ size → leng
 mixed-length m m₀ size n s s₀ h =
     omega (arith, length-append (take n m) (drop n m₀), length-drop n m₀, length-take-le n m (omega arith))
 
-module _ (m : List ℕ) (k : ℕ) (low : k < 4096) (byte : (i : ℕ) → getD m i 0 < 256) where
+module _ (m : List ℕ) (k : ℕ) (low : k < recordCount) (byte : (i : ℕ) → getD m i 0 < 256) where
   head-small : (j : ℕ) → headByte m k j < 256
   unfolding headByte
   head-small j =
-      let a : 16 < 256 = omega arith in
-      let b : k * 16 / 256 < 256 = omega arith in
-      let d : k * 16 % 256 < 256 = omega arith in
-      let z : 0 < 256 = omega arith in
-      let x = getD m (k * 16 + (j - 4)) 0 in
-      pick-lt (eqb j 0) 16 _ 256 a
-      (pick-lt (eqb j 1) (k * 16 / 256) _ 256 b (pick-lt (eqb j 2) (k * 16 % 256) _ 256 d (pick-lt (eqb j 3) 0 x 256 z (byte (k * 16 + (j - 4))))))
+      let Small : ℕ → Type 0 = λ (x : ℕ). x < 256 in
+      pick-has Small (eqb j 0) 16 _ (λ _. omega arith)
+      (λ _. pick-has Small (eqb j 1) (k * 16 / 256) _ (λ _. omega arith)
+      (λ _. pick-has Small (eqb j 2) (k * 16 % 256) _ (λ _. omega arith)
+      (λ _. pick-has Small (eqb j 3) 0 _ (λ _. omega arith) (λ _. byte (k * 16 + (j - 4))))))
 
   record-small : (j : ℕ) → recordByte m k j < 256
   unfolding recordByte
   record-small j =
-      let z : (256 - headSum m k 20) % 256 < 256 = omega arith in
-      pick-lt (ltb j 20) (headByte m k j) ((256 - headSum m k 20) % 256) 256 (head-small j) z
+      pick-has (λ (x : ℕ). x < 256) (ltb j 20) (headByte m k j) ((256 - headSum m k 20) % 256) (λ _. head-small j) (λ _. omega arith)
 
   headSum-small : (n : ℕ) → headSum m k n < 256
   unfolding headSum
@@ -298,18 +291,18 @@ end-buffer r e x good = rw (good, e)
 module _ (m m₀ : List ℕ) (size : ℕ) (good : bufferLength size ≡ true) (s : length m ≡ size) (s₀ : length m₀ ≡ size)
     (byte : (i : ℕ) → getD m i 0 < 256) where
   -- the first k records of an image, with any lines behind them
-  read-records : (k : ℕ) → k < 4096 → k * 16 ≤ size → (ls : List (List ℕ))
+  read-records : (k : ℕ) → k ≤ recordCount → k * 16 ≤ size → (ls : List (List ℕ))
       → (linesAnswer (recordLines m k ++ ls) begun size ≡ linesAnswer ls (record { next = k * 16; ended = false }) size)
       × (linesBuffer (recordLines m k ++ ls) begun m₀
       ≡ linesBuffer ls (record { next = k * 16; ended = false }) (take (k * 16) m ++ drop (k * 16) m₀))
   unfolding recordLines linesAnswer linesBuffer
   read-records zero h r ls = (refl, refl)
   read-records (suc k) h r ls =
-      let low : k < 4096 = omega arith in
+      let low : k < recordCount = omega arith in
       let fits : k * 16 + 16 ≤ size = omega arith in
       let e : suc k * 16 ≡ k * 16 + 16 = omega arith in
       let n = mixed-length m m₀ size (k * 16) s s₀ (omega arith) in
-      let ih = read-records k low (omega arith) (recordLine m k ∷ ls) in
+      let ih = read-records k (omega arith) (omega arith) (recordLine m k ∷ ls) in
       let g = answered m k low byte size good fits in
       rw (append-assoc (recordLines m k) (recordLine m k ∷ []) ls, e)
       (ih .0 ∙ rw g, ih .1 ∙ rw (n, g, placed m k low byte size good fits m₀ s s₀))
@@ -319,13 +312,13 @@ pub read-back : (m m₀ : List ℕ) → length m ≡ romLength → length m₀ �
     → (textAnswer (imageText m) (length m₀) ≡ value tt) × (textBuffer (imageText m) m₀ ≡ m)
 unfolding imageText textAnswer textBuffer
 read-back m m₀ s s₀ byte =
-    let r = read-records m m₀ 4096 refl s s₀ byte 256 (omega arith) (omega arith) (lines endLine) in
-    let whole : take 4096 m ++ drop 4096 m₀ ≡ m =
-    rw (take-all 4096 m (omega arith), drop-of-length-le m₀ {i = 4096} (omega arith)) (append-nil m) in
-    let a : linesAnswer (lines (records m 256 ++ endLine)) begun 4096 ≡ value tt =
-    rw (lines-records m 256 endLine) (r .0 ∙ read-end _ refl 4096 refl) in
-    let b : linesBuffer (lines (records m 256 ++ endLine)) begun m₀ ≡ m =
-    rw (lines-records m 256 endLine) (r .1 ∙ rw whole (end-buffer _ refl m (rw s))) in
+    let r = read-records m m₀ romLength refl s s₀ byte recordCount (omega arith) (omega arith) (lines endLine) in
+    let whole : take romLength m ++ drop romLength m₀ ≡ m =
+    rw (take-all romLength m (omega arith), drop-of-length-le m₀ {i = romLength} (omega arith)) (append-nil m) in
+    let a : linesAnswer (lines (records m recordCount ++ endLine)) begun romLength ≡ value tt =
+    rw (lines-records m recordCount endLine) (r .0 ∙ read-end _ refl romLength refl) in
+    let b : linesBuffer (lines (records m recordCount ++ endLine)) begun m₀ ≡ m =
+    rw (lines-records m recordCount endLine) (r .1 ∙ rw whole (end-buffer _ refl m (rw s))) in
     rw (s₀, a) (refl, b)
 
 -- where n bytes were written to the front of a buffer, they read back to the image
@@ -336,4 +329,4 @@ ReadsBack (refused k) m out = Unit {0}
 
 pub reads-back : (m rest : List ℕ) → length m ≡ romLength → ((i : ℕ) → getD m i 0 < 256)
     → ReadsBack (value textLength) m (imageText m ++ rest)
-reads-back m rest s byte m₀ s₀ = rw (take-at (imageText m) rest 11276 (length-imageText m)) (read-back m m₀ s s₀ byte)
+reads-back m rest s byte m₀ s₀ = rw (take-at (imageText m) rest textLength (length-imageText m)) (read-back m m₀ s s₀ byte)

@@ -2,13 +2,17 @@
 ghost use mathlib.Core.Path.{_≡_};
 ghost use Prim.Native.Nat.{_+_, _*_, _%_, _<_, _≤_};
 ghost use mathlib.Core.List.{_++_};
+ghost use Rattle.base.specs.Lengths.{romLength};
 ghost use lib.ListN.{length, drop};
-ghost use Rattle.hex_write.specs.ImageText.{hexDigit, headByte, headSum, recordByte, recordLine, endLine, imageText, writtenOutcome, writeAnswer, writeBuffer};
+ghost use Rattle.hex_write.specs.ImageText.{hexDigit, headByte, headSum, recordByte, recordLine, endLine, recordCount, imageText, textLength, writtenOutcome, writeAnswer, writeBuffer};
 ghost use Rattle.hex_write.specs.ReadBack.{ReadsBack};
 
-const IMAGE_LENGTH: usize = 4096;
+// The records of 16 bytes, each a line of 44; the end line, of 12.
+const RECORDS: usize = base::IMAGE_LENGTH / 16;
 
-const TEXT_LENGTH: usize = 11276;
+const END_AT: usize = RECORDS * 44;
+
+pub const TEXT_LENGTH: usize = END_AT + 12;
 
 // How many bytes were written; or refusal 7.
 pub enum Written {
@@ -26,7 +30,7 @@ pub fn hex_digit(x: u8) -> u8
 
 // Byte j of record k before its sum: length, address, type, data.
 fn head_byte(image: &[u8], k: usize, j: usize) -> u8
-    requires { ⌜ (k < 256) × (j < 20) × (length (now image) ≡ 4096) ⌝ }
+    requires { ⌜ (k < recordCount) × (j < 20) × (length (now image) ≡ romLength) ⌝ }
     ensures { λ r. ⌜ r ≡ headByte (now (image .entry)) k j ⌝ }
 {
     match j {
@@ -40,7 +44,7 @@ fn head_byte(image: &[u8], k: usize, j: usize) -> u8
 
 // The sum modulo 256 of the first n bytes of record k.
 fn head_sum(image: &[u8], k: usize, n: usize) -> u16
-    requires { ⌜ (k < 256) × (n ≤ 20) × (length (now image) ≡ 4096) ⌝ }
+    requires { ⌜ (k < recordCount) × (n ≤ 20) × (length (now image) ≡ romLength) ⌝ }
     ensures { λ r. ⌜ (r ≡ headSum (now (image .entry)) k n) × (r < 256) ⌝ }
 {
     let mut sum: u16 = 0;
@@ -54,7 +58,7 @@ fn head_sum(image: &[u8], k: usize, n: usize) -> u16
 
 // Byte j of record k, its sum included.
 fn record_byte(image: &[u8], k: usize, j: usize) -> u8
-    requires { ⌜ (k < 256) × (j < 21) × (length (now image) ≡ 4096) ⌝ }
+    requires { ⌜ (k < recordCount) × (j < 21) × (length (now image) ≡ romLength) ⌝ }
     ensures { λ r. ⌜ r ≡ recordByte (now (image .entry)) k j ⌝ }
 {
     if j < 20 {
@@ -66,7 +70,7 @@ fn record_byte(image: &[u8], k: usize, j: usize) -> u8
 
 // Writes record k at the front of a part of the buffer.
 fn write_record(out: &mut [u8], image: &[u8], k: usize)
-    requires { ⌜ (k < 256) × (44 ≤ length (now out)) × (length (now image) ≡ 4096) ⌝ }
+    requires { ⌜ (k < recordCount) × (44 ≤ length (now out)) × (length (now image) ≡ romLength) ⌝ }
     ensures { λ r. ⌜ now (out .exit) ≡ recordLine (now (image .entry)) k ++ drop 44 (now (out .entry)) ⌝ }
 {
     out[0] = 58;
@@ -100,16 +104,16 @@ fn write_end(out: &mut [u8])
 }
 
 fn write_lines(image: &[u8], out: &mut [u8])
-    requires { ⌜ (length (now image) ≡ 4096) × (11276 ≤ length (now out)) ⌝ }
-    ensures { λ r. ⌜ now (out .exit) ≡ imageText (now (image .entry)) ++ drop 11276 (now (out .entry)) ⌝ }
+    requires { ⌜ (length (now image) ≡ romLength) × (textLength ≤ length (now out)) ⌝ }
+    ensures { λ r. ⌜ now (out .exit) ≡ imageText (now (image .entry)) ++ drop textLength (now (out .entry)) ⌝ }
 {
     let mut k: usize = 0;
-    while k < 256 {
+    while k < RECORDS {
         let at = k * 44;
         write_record(&mut out[at..], image, k);
         k += 1;
     }
-    write_end(&mut out[11264..]);
+    write_end(&mut out[END_AT..]);
 }
 
 // Writes the text of an image at the front of a buffer. It reads back to the image. A refusal leaves the buffer as it was.
@@ -118,7 +122,7 @@ pub fn write_image(image: &[u8], out: &mut [u8]) -> Written
     ensures { λ r. ⌜ now (out .exit) ≡ writeBuffer (now (image .entry)) (now (out .entry)) ⌝ }
     ensures { λ r. ⌜ ReadsBack (writtenOutcome r) (now (image .entry)) (now (out .exit)) ⌝ }
 {
-    if image.len() != IMAGE_LENGTH {
+    if !base::is_image_length(image.len()) {
         return Written::WrongLength;
     }
     if out.len() < TEXT_LENGTH {

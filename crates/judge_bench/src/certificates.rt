@@ -1,10 +1,10 @@
 // Checks of a certificate.
-use crate::bytes::load;
-use crate::bytes::print;
-use crate::bytes::print_hex;
-use crate::bytes::print_number;
-use crate::bytes::put;
-use crate::bytes::put_times;
+use crate::printing::print;
+use crate::printing::print_hex;
+use crate::printing::print_number;
+use base::CERTIFICATE_LENGTH;
+use base::IMAGE_LENGTH;
+use bench_support::put;
 use certificate::Verdict;
 
 // The entry of 0127H, the first of the groups.
@@ -12,8 +12,24 @@ const GROUPS: usize = 14 * 0x127;
 
 const CELLS: usize = 0xE000;
 
+// A HEX text into a slice.
+fn load(bytes: &mut [u8], text: &[u8]) {
+    hex_text::read_text(text, bytes);
+}
+
+// A part so many times, one behind the other.
+fn put_times(bytes: &mut [u8], at: usize, part: &[u8], times: usize) {
+    let mut next = at;
+    let mut left = times;
+    while left > 0 {
+        put(bytes, next, part);
+        next = std::num::wrapping_add_usize(next, part.len());
+        left -= 1;
+    }
+}
+
 // Main and service. LD SP,#C0H; CALL 0120H; JR to CALL. IRET. Entries of 0100H, 0103H, 0106H and 0110H, two routines, and the stack, A0H to BFH.
-fn put_main(image: &mut [u8; 4096], cert: &mut [u8; 58498]) {
+fn put_main(image: &mut [u8; IMAGE_LENGTH], cert: &mut [u8; CERTIFICATE_LENGTH]) {
     load(
         image,
         b":020000000110ED\n\
@@ -35,7 +51,7 @@ fn put_main(image: &mut [u8; 4096], cert: &mut [u8; 58498]) {
 
 // Routine 3 around its groups. CLR R2; CLR R4; CP R4,#FEH. RET. Entries of 0120H, 0122H, 0124H and 0CDFH, the cells R2, R3 and R4, of class 1 and
 // writer limit 63, and the routine.
-fn put_routine(image: &mut [u8; 4096], cert: &mut [u8; 58498]) {
+fn put_routine(image: &mut [u8; IMAGE_LENGTH], cert: &mut [u8; CERTIFICATE_LENGTH]) {
     load(
         image,
         b":07012000B0C2B0C4A6C4FE8A\n\
@@ -56,7 +72,7 @@ fn put_routine(image: &mut [u8; 4096], cert: &mut [u8; 58498]) {
 
 // 500 groups of LD R3,@R2; LD @R2,R3; JR UGT,+0, whose two edges go on alike. In the entries R4 is claimed 0 to 255 and compared with 254, R2 is
 // claimed 0 to 9FH. Table 1 is 00H to 9FH, of class 1 and writer limit 63.
-fn put_groups(image: &mut [u8; 4096], cert: &mut [u8; 58498]) {
+fn put_groups(image: &mut [u8; IMAGE_LENGTH], cert: &mut [u8; CERTIFICATE_LENGTH]) {
     put_times(image, 0x127, b"\xC7\x32\xD7\x23\xBB\x00", 500);
     put_times(
         cert,
@@ -67,7 +83,7 @@ fn put_groups(image: &mut [u8; 4096], cert: &mut [u8; 58498]) {
     put_times(cert, CELLS, b"\x01\x3F\x01", 160);
 }
 
-fn put_bound(cert: &mut [u8; 58498], k: usize, n: u16) {
+fn put_bound(cert: &mut [u8; CERTIFICATE_LENGTH], k: usize, n: u16) {
     put(
         cert,
         GROUPS + 2 + 28 * (k % 1500),
@@ -76,7 +92,7 @@ fn put_bound(cert: &mut [u8; 58498], k: usize, n: u16) {
 }
 
 // The bounds in the groups: their instructions cost 4, 4 and 6, RET behind them 8.
-fn put_bounds(cert: &mut [u8; 58498]) {
+fn put_bounds(cert: &mut [u8; CERTIFICATE_LENGTH]) {
     let mut k: u16 = 0;
     while k < 1500 {
         put_bound(cert, k as usize, 8 + 14 * (500 - k / 3) - 4 * (k % 3));
@@ -85,11 +101,11 @@ fn put_bounds(cert: &mut [u8; 58498]) {
 }
 
 // JR to itself, where the full program has CALL.
-fn put_loop(image: &mut [u8; 4096]) {
+fn put_loop(image: &mut [u8; IMAGE_LENGTH]) {
     put(image, 0x103, b"\x8B\xFE");
 }
 
-fn check_times(image: &[u8; 4096], cert: &[u8; 58498], count: u64) -> Verdict {
+fn check_times(image: &[u8; IMAGE_LENGTH], cert: &[u8; CERTIFICATE_LENGTH], count: u64) -> Verdict {
     let mut verdict = checker::check(image, cert);
     let mut left = count;
     while left > 1 {
@@ -114,7 +130,7 @@ fn tell_refused(n: u8, a: u16) {
     print(b"\n");
 }
 
-fn count_of(what: u8) -> u64 {
+fn count_of(what: u64) -> u64 {
     match what {
         1 => 100,
         2 => 10000,
@@ -122,7 +138,7 @@ fn count_of(what: u8) -> u64 {
     }
 }
 
-fn fill(what: u8, image: &mut [u8; 4096], cert: &mut [u8; 58498]) {
+fn fill(what: u64, image: &mut [u8; IMAGE_LENGTH], cert: &mut [u8; CERTIFICATE_LENGTH]) {
     if what < 3 {
         put_main(image, cert);
     }
@@ -136,9 +152,9 @@ fn fill(what: u8, image: &mut [u8; 4096], cert: &mut [u8; 58498]) {
 }
 
 // 1 is a full certificate of 1,508 entries, checked 100 times, 2 one of main and service alone, 10,000 times, 3 one of zeros, a million times.
-pub fn work(what: u8) {
-    let mut image = [255u8; 4096];
-    let mut cert = [0u8; 58498];
+pub fn work(what: u64) {
+    let mut image = [255u8; IMAGE_LENGTH];
+    let mut cert = [0u8; CERTIFICATE_LENGTH];
     fill(what, &mut image, &mut cert);
     tell(check_times(&image, &cert, count_of(what)));
 }

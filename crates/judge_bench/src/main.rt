@@ -1,12 +1,12 @@
 // Checks of certificates and HEX texts, to be timed: `judge_bench WHAT`. The argument is one digit, 0 for everything. `bench/run` times it and prints a
 // table; the gate compares what is printed.
-mod bytes;
 mod certificates;
+mod printing;
 mod texts;
 
 // 1 to 3 are certificates, 4 to 6 HEX texts.
-fn work(what: u8) {
-    bytes::print_number(what as u64);
+fn work(what: u64) {
+    printing::print_number(what);
     if what < 4 {
         certificates::work(what);
     } else {
@@ -14,21 +14,19 @@ fn work(what: u8) {
     }
 }
 
-fn work_all() {
-    let mut what: u8 = 1;
-    while what < 7 {
-        work(what);
-        what += 1;
-    }
+fn argument() -> u64 {
+    let mut text = [0u8; 1];
+    os::arg(1, &mut text);
+    bench_support::number(&text)
 }
 
 fn main() {
-    let mut text = [0u8; 1];
-    os::arg(1, &mut text);
-    let what = text[0] % 16;
-    if what == 0 {
-        work_all();
-    } else {
+    let rows = bench_support::rows_of(argument(), 6);
+    let last = rows.last;
+    let mut what = rows.first;
+    work(what);
+    while what < last {
+        what += 1;
         work(what);
     }
 }

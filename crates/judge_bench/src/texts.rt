@@ -1,16 +1,16 @@
 // Reading and writing an image of 4,096 bytes as Intel HEX, 11,276 bytes of text.
-use crate::bytes::print;
-use crate::bytes::print_number;
+use crate::printing::print;
+use crate::printing::print_number;
+use base::IMAGE_LENGTH;
 use hex_text::Text;
+use hex_write::TEXT_LENGTH;
 use hex_write::Written;
 
-const TEXT: usize = 11276;
-
 // The bytes of an image that has each value in each place modulo 256.
-fn image() -> [u8; 4096] {
-    let mut image = [0u8; 4096];
+fn image() -> [u8; IMAGE_LENGTH] {
+    let mut image = [0u8; IMAGE_LENGTH];
     let mut i = 0;
-    while i < 4096 {
+    while i < IMAGE_LENGTH {
         image[i] = (i % 256) as u8;
         i += 1;
     }
@@ -38,7 +38,12 @@ fn stream(text: &[u8], buffer: &mut [u8]) -> u64 {
 }
 
 // Reads the whole text (4), reads it by feed and finish (5), or writes it.
-fn turn(what: u8, image: &[u8; 4096], text: &mut [u8; 11276], buffer: &mut [u8; 4096]) -> u64 {
+fn turn(
+    what: u64,
+    image: &[u8; IMAGE_LENGTH],
+    text: &mut [u8; TEXT_LENGTH],
+    buffer: &mut [u8; IMAGE_LENGTH],
+) -> u64 {
     match what {
         4 => answer_of(hex_text::read_text(text, buffer)),
         5 => stream(text, buffer),
@@ -47,10 +52,10 @@ fn turn(what: u8, image: &[u8; 4096], text: &mut [u8; 11276], buffer: &mut [u8; 
 }
 
 fn turns(
-    what: u8,
-    image: &[u8; 4096],
-    text: &mut [u8; 11276],
-    buffer: &mut [u8; 4096],
+    what: u64,
+    image: &[u8; IMAGE_LENGTH],
+    text: &mut [u8; TEXT_LENGTH],
+    buffer: &mut [u8; IMAGE_LENGTH],
     count: u64,
 ) -> u64 {
     let mut answer: u64 = 0;
@@ -62,11 +67,11 @@ fn turns(
     answer
 }
 
-fn same(a: &[u8; 4096], b: &[u8; 4096]) -> bool {
+fn same(a: &[u8; IMAGE_LENGTH], b: &[u8; IMAGE_LENGTH]) -> bool {
     check::same(a, b)
 }
 
-fn count_of(what: u8) -> u64 {
+fn count_of(what: u64) -> u64 {
     match what {
         6 => 20000,
         _ => 2000,
@@ -84,10 +89,10 @@ fn tell(answer: u64, same: bool) {
 }
 
 // 4 reads a whole text 2,000 times, 5 reads it by feed and finish as often, 6 writes it 20,000 times.
-pub fn work(what: u8) {
+pub fn work(what: u64) {
     let image = image();
-    let mut text = [0u8; TEXT];
-    let mut buffer = [0u8; 4096];
+    let mut text = [0u8; TEXT_LENGTH];
+    let mut buffer = [0u8; IMAGE_LENGTH];
     turn(6, &image, &mut text, &mut buffer);
     let answer = turns(what, &image, &mut text, &mut buffer, count_of(what));
     tell(answer, (what == 6) | same(&image, &buffer));

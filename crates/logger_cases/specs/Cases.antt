@@ -3,13 +3,14 @@
 use mathlib.Core.Path.{_≡_, refl, sym, _∙_, ap}
 use mathlib.Core.Bool.{Bool, true, false}
 use mathlib.Core.List.{List, [], _∷_, _++_}
-use Prim.Native.Nat.{ℕ}
+use Prim.Native.Nat.{ℕ, _-_}
 use Prim.Native.Char.{code}
 use Prim.Native.String.{String}
 use Prim.Native.String as text
 use lib.ListN.{length, getD, replicate, set}
 use Rattle.base.specs.Addresses.{romAddr}
 use Rattle.base.specs.Choice.{pick, choose}
+use Rattle.base.specs.Lengths.{romLength, recordLength}
 use Rattle.isa.specs.declared.Alu.{Alu}
 use Rattle.isa.specs.declared.Unary.{Unary}
 use Rattle.chip.specs.Registers.{keptOf}
@@ -18,7 +19,8 @@ use Rattle.alu.specs.declared.FlagUpdate.the-variants.{Result, CarryResult}
 use Rattle.alu.specs.Operations.{operate, modify}
 use Rattle.semantics.specs.declared.Mode.the-variants.{Running}
 use Rattle.semantics.specs.declared.State.{State}
-use Rattle.semantics.specs.Step.{stepOf}
+use Rattle.semantics.specs.Step.{movedTo, stepOf}
+use Rattle.semantics.specs.Reset.{resetState}
 use Rattle.certificate.specs.declared.Verdict.{Verdict}
 use Rattle.certificate.specs.declared.Verdict.the-variants.{Accepted, Refused}
 use Rattle.certificate.specs.Layout.{Certificate, certificateFrom, certificateOf}
@@ -30,11 +32,11 @@ use Rattle.logger_cases.specs.Opened.{opened}
 
 -- CALL 0521H stands at 0A47H
 unfoldable pub callImage : List ℕ
-callImage = replicate 0xA47 0xFF ++ (0xF6 ∷ 0x05 ∷ 0x21 ∷ replicate 1462 0xFF)
+callImage = replicate 0xA47 0xFF ++ (0xF6 ∷ 0x05 ∷ 0x21 ∷ replicate (romLength - 0xA4A) 0xFF)
 
 -- at an address, with SP
 unfoldable pub stateAt : ℕ → ℕ → State
-stateAt pc sp = record { regs = set (replicate 256 0) 0xD9 sp; pc = romAddr pc; mode = Running; cycles = 0 }
+stateAt pc sp = movedTo resetState (set (replicate 256 0) 0xD9 sp) (romAddr pc) Running 0
 
 -- a text's characters by their numbers
 abbrev pub ascii : String → List ℕ
@@ -56,7 +58,7 @@ pub data Case : Type 0 where
 abbrev pub CaseHolds : Case → Type 0
 CaseHolds (operates op x y c v f) = operate op x y c ≡ record { value = v; flags = f }
 CaseHolds (modifies op x v f) = (c : Bool) → modify op x c ≡ record { value = v; flags = f }
-CaseHolds (steps image pc sp a v) = (stepOf image (stateAt pc sp) (replicate 8 0) .stop ≡ 0) × (getD (stepOf image (stateAt pc sp) (replicate 8 0) .state .regs) a 0 ≡ v)
+CaseHolds (steps image pc sp a v) = (stepOf image (stateAt pc sp) (replicate recordLength 0) .stop ≡ 0) × (getD (stepOf image (stateAt pc sp) (replicate recordLength 0) .state .regs) a 0 ≡ v)
 CaseHolds (stores a old v new) = keptOf a old v ≡ new
 CaseHolds (judges image cert v s) = (verdictOf image cert ≡ v) × (reportText (verdictOf image cert) (certificateOf cert) ≡ ascii s)
 
@@ -103,13 +105,13 @@ cases =
     ∷ judges (imageWith 0x7B) (certificateWith 364 0xBC) (Refused 25 (romAddr 0x100)) "refused 25 0100\n"
     ∷ []
 
-image-length : (j : ℕ) → length (imageWith j) ≡ 4096
+image-length : (j : ℕ) → length (imageWith j) ≡ romLength
 unfolding imageWith
 image-length j = refl
 
 -- the certificate, and the verdict, computed on tables instead of bytes
 abbrev tables : ℕ → ℕ → Certificate
-tables bound floor = certificateFrom (upTo 4096 entry) (upTo 256 cell) (upTo 64 (row bound)) floor 0xC0
+tables bound floor = certificateFrom (upTo romLength entry) (upTo 256 cell) (upTo 64 (row bound)) floor 0xC0
 
 certificate-tables : (bound floor : ℕ) → certificateOf (certificateWith bound floor) ≡ tables bound floor
 unfolding certificateWith
@@ -149,7 +151,7 @@ unfolding opened
 case-l-refused = on-tables 0x7B 364 0xBC (Refused 25 (romAddr 0x100)) "refused 25 0100\n" refl refl
 
 case-g : CaseHolds (steps callImage 0xA47 0xB2 0xB0 0x0A) × CaseHolds (steps callImage 0xA47 0xB2 0xB1 0x4A)
-unfolding opened callImage stateAt
+unfolding opened callImage stateAt resetState
 case-g = ((refl, refl), (refl, refl))
 
 case-a : CaseHolds (operates Alu.Adc 0x10 0x03 true 0x14 (CarryResult false false false false))

@@ -10,6 +10,7 @@ use lib.ListN.{length, getD, take, drop, length-append}
 use lib.Seq.{drop-drop, drop-at, take-at, getD-drop}
 use Rattle.base.specs.Choice.{pick}
 use Rattle.base.specs.Formula.{of-true}
+use Rattle.base.specs.Lengths.{romLength, certificateLength}
 use Rattle.certificate.specs.Layout.{Certificate, certificateFrom, part, certificateOf}
 
 -- what the table f gives for a, a + 1, .., n of them, one behind the other
@@ -57,12 +58,12 @@ module _ (w : ℕ) (f : ℕ → List ℕ) (wide : (k : ℕ) → length (f k) ≡
 
 module _ (entry cell row : ℕ → List ℕ) (floor top : ℕ) where
   unfoldable pub certificateBytes : List ℕ
-  certificateBytes = gathered 4096 0 entry ++ (gathered 256 0 cell ++ (gathered 64 0 row ++ (floor ∷ top ∷ [])))
+  certificateBytes = gathered romLength 0 entry ++ (gathered 256 0 cell ++ (gathered 64 0 row ++ (floor ∷ top ∷ [])))
 
   module _ (entries : (k : ℕ) → length (entry k) ≡ 14) (cells : (k : ℕ) → length (cell k) ≡ 3) (rows : (k : ℕ) → length (row k) ≡ 6) where
     at-cells : drop 0xE000 certificateBytes ≡ gathered 256 0 cell ++ (gathered 64 0 row ++ (floor ∷ top ∷ []))
     unfolding certificateBytes
-    at-cells = drop-at (gathered 4096 0 entry) (gathered 256 0 cell ++ (gathered 64 0 row ++ (floor ∷ top ∷ []))) 0xE000 (gathered-length 14 entry entries 4096 0)
+    at-cells = drop-at (gathered romLength 0 entry) (gathered 256 0 cell ++ (gathered 64 0 row ++ (floor ∷ top ∷ []))) 0xE000 (gathered-length 14 entry entries romLength 0)
 
     at-rows : drop 0xE300 certificateBytes ≡ gathered 64 0 row ++ (floor ∷ top ∷ [])
     at-rows =
@@ -74,18 +75,18 @@ module _ (entry cell row : ℕ → List ℕ) (floor top : ℕ) where
         sym (drop-drop 0x180 0xE300 certificateBytes)
         ∙ (ap (drop 0x180) at-rows ∙ drop-at (gathered 64 0 row) (floor ∷ top ∷ []) 0x180 (gathered-length 6 row rows 64 0))
 
-    pub bytes-length : length certificateBytes ≡ 58498
+    pub bytes-length : length certificateBytes ≡ certificateLength
     unfolding certificateBytes
     bytes-length =
-        let a = gathered-length 14 entry entries 4096 0 in
+        let a = gathered-length 14 entry entries romLength 0 in
         let b = gathered-length 3 cell cells 256 0 in
         let c = gathered-length 6 row rows 64 0 in
         let l1 = length-append (gathered 64 0 row) (floor ∷ top ∷ []) in
         let l2 = length-append (gathered 256 0 cell) (gathered 64 0 row ++ (floor ∷ top ∷ [])) in
-        let l3 = length-append (gathered 4096 0 entry) (gathered 256 0 cell ++ (gathered 64 0 row ++ (floor ∷ top ∷ []))) in
+        let l3 = length-append (gathered romLength 0 entry) (gathered 256 0 cell ++ (gathered 64 0 row ++ (floor ∷ top ∷ []))) in
         omega arith
 
-    at-entries : drop 0 certificateBytes ≡ gathered 4096 0 entry ++ (gathered 256 0 cell ++ (gathered 64 0 row ++ (floor ∷ top ∷ [])))
+    at-entries : drop 0 certificateBytes ≡ gathered romLength 0 entry ++ (gathered 256 0 cell ++ (gathered 64 0 row ++ (floor ∷ top ∷ [])))
     unfolding certificateBytes
     at-entries = refl
 
@@ -93,11 +94,11 @@ module _ (entry cell row : ℕ → List ℕ) (floor top : ℕ) where
     at-end k = sym (getD-drop 0xE480 certificateBytes k 0) ∙ ap (λ (l : List ℕ). getD l k 0) at-ends
 
     -- the certificate of the bytes is the tables'
-    pub certificate-is : certificateOf certificateBytes ≡ certificateFrom (upTo 4096 entry) (upTo 256 cell) (upTo 64 row) floor top
+    pub certificate-is : certificateOf certificateBytes ≡ certificateFrom (upTo romLength entry) (upTo 256 cell) (upTo 64 row) floor top
     unfolding certificateOf
     certificate-is =
         rw (
-          part-gathered 14 entry entries 4096 0 certificateBytes (gathered 256 0 cell ++ (gathered 64 0 row ++ (floor ∷ top ∷ []))) at-entries,
+          part-gathered 14 entry entries romLength 0 certificateBytes (gathered 256 0 cell ++ (gathered 64 0 row ++ (floor ∷ top ∷ []))) at-entries,
           part-gathered 3 cell cells 256 0xE000 certificateBytes (gathered 64 0 row ++ (floor ∷ top ∷ [])) at-cells,
           part-gathered 6 row rows 64 0xE300 certificateBytes (floor ∷ top ∷ []) at-rows,
           at-end 0,

@@ -11,16 +11,17 @@ use lib.ListN.{length, getD}
 use Rattle.base.specs.declared.RomAddr.{RomAddr}
 use Rattle.base.specs.Addresses.{regAddr}
 use Rattle.base.specs.Formula.{sound, of-true, test, lt, neg, eq, _&_, _⇒_, forallBelow}
+use Rattle.base.specs.Lengths.{romLength, recordLength}
 use Rattle.isa.specs.declared.Alu.{Alu}
 use Rattle.action.specs.declared.Operand.the-variants.{Register, Indirect}
 use Rattle.action.specs.declared.Action.{Action}
 use Rattle.semantics.specs.declared.State.{State}
 use Rattle.semantics.specs.Operands.{placeOf}
-use Rattle.semantics.specs.Step.{recordLength, requested, stepOf}
+use Rattle.semantics.specs.Step.{requested}
 use Rattle.semantics.specs.Run.{recordAt}
 use Rattle.semantics.specs.Reset.{IsReset}
 use Rattle.certificate.specs.Layout.{Certificate, certificateFrom, certificateOf}
-use Rattle.safety.specs.Statement.{Event, executed, eventOf, Monitored, monitorStep, EventRight, StepRight, Walk, fromReset, Schedule, Demand3}
+use Rattle.safety.specs.Statement.{Event, executed, eventOf, Monitored, actedState, monitorStep, EventRight, StepRight, Walk, fromReset, Schedule, Demand3}
 use Rattle.safety.specs.Theorem.{demand3}
 use Rattle.logger_cases.specs.Gathered.{gathered, upTo, certificateBytes, certificate-is}
 use Rattle.logger_cases.specs.Program.{imageWith, entry, cell, row, certificateWith, entry-length, cell-length, row-length}
@@ -55,15 +56,15 @@ pub demand-met : Demand3 (certificateOf certificate) image
 demand-met = demand3 image certificate (bytes-of image image-bytes) (bytes-of certificate certificate-bytes) accepted-p
 
 -- the only table is 00H to 0FH
-tables-table : (x : ℕ) → x < 256 → certificateFrom (upTo 4096 entry) (upTo 256 cell) (upTo 64 (row 364)) 0xA0 0xC0 .table x ≢ 0 → x < 16
+tables-table : (x : ℕ) → x < 256 → certificateFrom (upTo romLength entry) (upTo 256 cell) (upTo 64 (row 364)) 0xA0 0xC0 .table x ≢ 0 → x < 16
 unfolding certificateFrom cell
 tables-table x h n =
-    sound (forallBelow 256 (λ (x : ℕ). neg (eq (certificateFrom (upTo 4096 entry) (upTo 256 cell) (upTo 64 (row 364)) 0xA0 0xC0 .table x) 0) ⇒ lt x 16)) tt x h n
+    sound (forallBelow 256 (λ (x : ℕ). neg (eq (certificateFrom (upTo romLength entry) (upTo 256 cell) (upTo 64 (row 364)) 0xA0 0xC0 .table x) 0) ⇒ lt x 16)) tt x h n
 
 table-is : (x : ℕ) → x < 256 → certificateOf certificate .table x ≢ 0 → x < 16
 unfolding certificateWith
 table-is x h n =
-    let e : certificateOf certificate ≡ certificateFrom (upTo 4096 entry) (upTo 256 cell) (upTo 64 (row 364)) 0xA0 0xC0
+    let e : certificateOf certificate ≡ certificateFrom (upTo romLength entry) (upTo 256 cell) (upTo 64 (row 364)) 0xA0 0xC0
     = certificate-is entry cell (row 364) 0xA0 0xC0 entry-length cell-length (row-length 364) in
     tables-table x h (λ z. n (ap (λ (C : Certificate). C .table x) e ∙ z))
 
@@ -99,6 +100,6 @@ gauges-in-table s reset schedule sc k h next e =
     let w = demand-met .1 s reset schedule sc .walk in
     let z : 0 + k ≡ k = omega arith in
     let r : StepRight (certificateOf certificate) image tables m (recordAt schedule k) = subst (λ (j : ℕ). StepRight (certificateOf certificate) image tables m (recordAt schedule j)) z (walk-at (length schedule / recordLength) tables schedule 0 (fromReset (certificateOf certificate) image s) w k h) in
-    let p = subst (λ (x : Event). EventRight (certificateOf certificate) image tables m (recordAt schedule k) x (stepOf image (m .state) (recordAt schedule k) .state .pc .0)) e (r .event) .pointers .1 in
+    let p = subst (λ (x : Event). EventRight (certificateOf certificate) image tables m (recordAt schedule k) x (actedState (certificateOf certificate) image m (recordAt schedule k) .pc .0)) e (r .event) .pointers .1 in
     table-is (placeOf (requested (m .state) (recordAt schedule k)) (recordAt schedule k) (Indirect (regAddr 0xC2) 0) .addr .0) (small (requested (m .state) (recordAt schedule k)) (recordAt schedule k))
     (λ q. p .1 (sym (p .0) ∙ q))

@@ -9,7 +9,7 @@ use Rattle.alu.specs.Flags.{carry, zeroFlag, signFlag, overflowFlag, flagsByte,
 use Rattle.alu.specs.Operations.{biased, overflows, addition, subtraction, logical, operate, stores, increment, decrement, rotation, shiftRight, modify}
 use Rattle.semantics.specs.Operands.{placeOf, fetchPlace, fetchOf, withFlags, lowered, raised, storeTop, pushOf, pushAddress, wordAt, wordMapped}
 use Rattle.semantics.specs.Execute.{callOf, executeOf}
-use Rattle.semantics.specs.Step.{actingRequests, entryDue, finishOf, afterDecode, instructionStep, modeStep, stepAfterRequests, stepWith, stepOf}
+use Rattle.semantics.specs.Step.{actingRequests, entryDue, finishOf, afterDecode, instructionAct, modeAct, actAfterRequests, actedOf, settled, stepOf}
 use Rattle.certificate.specs.Layout.{certificateFrom}
 use Rattle.certificate.specs.Summaries.{summaryOf}
 use Rattle.safety.specs.Rules.{meets, low, high, claimed, boundAt, worst, used, cellRule, claimable, claimRule, compareRule, emptyEntry, entryRule, addressRule, startRule, bareRule, rule20, rule21, rule22, rule23, rule24, rule25, rule26, rule27, successor, callTarget, writable, reach, callDepth, narrowed, left, feasible, claimFollows, compareFollows, edge26, survives, call26, firstValue, sameFirst, boundAfter, boundAfterCall, paid, edge27, rowRule}
@@ -18,5 +18,5 @@ use Rattle.report.specs.Report.{decimal, numberText, rowText, rowsText, accepte
 use Rattle.logger_cases.specs.Program.{imageWith, entry, cell, row}
 
 unfoldable pub opened : ℕ
-unfolding decodeAt actionOf keptBits mappedOf loadOf writtenOf keptOf storeOf interruptsEnabled setInterruptsOf pendingEdge pendingAny raiseOf postOf carry zeroFlag signFlag overflowFlag flagsByte update conditionOn condition biased overflows addition subtraction logical operate stores increment decrement rotation shiftRight modify placeOf fetchPlace fetchOf withFlags lowered raised storeTop pushOf pushAddress wordAt wordMapped callOf executeOf actingRequests entryDue finishOf afterDecode instructionStep modeStep stepAfterRequests stepWith stepOf certificateFrom summaryOf meets low high claimed boundAt worst used cellRule claimable claimRule compareRule emptyEntry entryRule addressRule startRule bareRule rule20 rule21 rule22 rule23 rule24 rule25 rule26 rule27 successor callTarget writable reach callDepth narrowed left feasible claimFollows compareFollows edge26 survives call26 firstValue sameFirst boundAfter boundAfterCall paid edge27 rowRule summaryFrom summaryAt nextAt costAt rulesOn firstBroken numberAt scan verdictOn decimal numberText rowText rowsText acceptedText refusedText imageWith entry cell row
+unfolding decodeAt actionOf keptBits mappedOf loadOf writtenOf keptOf storeOf interruptsEnabled setInterruptsOf pendingEdge pendingAny raiseOf postOf carry zeroFlag signFlag overflowFlag flagsByte update conditionOn condition biased overflows addition subtraction logical operate stores increment decrement rotation shiftRight modify placeOf fetchPlace fetchOf withFlags lowered raised storeTop pushOf pushAddress wordAt wordMapped callOf executeOf actingRequests entryDue finishOf afterDecode instructionAct modeAct actAfterRequests actedOf settled stepOf certificateFrom summaryOf meets low high claimed boundAt worst used cellRule claimable claimRule compareRule emptyEntry entryRule addressRule startRule bareRule rule20 rule21 rule22 rule23 rule24 rule25 rule26 rule27 successor callTarget writable reach callDepth narrowed left feasible claimFollows compareFollows edge26 survives call26 firstValue sameFirst boundAfter boundAfterCall paid edge27 rowRule summaryFrom summaryAt nextAt costAt rulesOn firstBroken numberAt scan verdictOn decimal numberText rowText rowsText acceptedText refusedText imageWith entry cell row
 opened = 0

@@ -1,12 +1,13 @@
 -- Image P of 01 and its certificate, at full size. The byte, bound and floor in which cases (i) to (l) differ are parameters.
 -- Assumes nothing.
 use mathlib.Core.Path.{_≡_, refl}
-use mathlib.Core.Bool.{Bool, true, false}
 use mathlib.Core.List.{List, [], _∷_, _++_}
-use Prim.Native.Nat.{ℕ, _/_, _%_}
-use lib.Dec.{eqb, ltb}
+use Prim.Native.Nat.{ℕ, _-_, _/_, _%_}
+use lib.Dec.{ltb}
 use lib.ListN.{length, replicate}
 use Rattle.base.specs.Choice.{pick, choose}
+use Rattle.base.specs.ChoiceLaws.{pick-has, choose-has}
+use Rattle.base.specs.Lengths.{romLength}
 use Rattle.logger_cases.specs.Gathered.{certificateBytes}
 
 -- j stands at 0128H
@@ -17,7 +18,7 @@ imageWith j =
     ++ ((0xE6 ∷ 0xD9 ∷ 0xC0 ∷ 0xF6 ∷ 0x01 ∷ 0x20 ∷ 0x8B ∷ 0xFB ∷ [])
     ++ (replicate 24 0xFF
     ++ ((0xB0 ∷ 0xC2 ∷ 0x03 ∷ 0x32 ∷ 0x2E ∷ 0xA6 ∷ 0xC2 ∷ 0x10 ∷ j ∷ 0xF8 ∷ 0xAF ∷ [])
-    ++ (replicate 21 0xFF ++ (0xBF ∷ replicate 3775 0xFF))))))
+    ++ (replicate 21 0xFF ++ (0xBF ∷ replicate (romLength - 0x141) 0xFF))))))
 
 -- fourteen bytes of an entry: routine, depth, B, M, direction, first claim, no second claim, compare
 abbrev entryBytes : ℕ → ℕ → ℕ → ℕ → ℕ → ℕ → ℕ → ℕ → ℕ → ℕ → List ℕ
@@ -63,30 +64,21 @@ row bound n = choose n (rows bound) (0 ∷ 0 ∷ 0 ∷ 0 ∷ 0 ∷ 0 ∷ [])
 unfoldable pub certificateWith : ℕ → ℕ → List ℕ
 certificateWith bound floor = certificateBytes entry cell (row bound) floor 0xC0
 
--- every choice of lists of one length has that length
-abbrev AllLong : ℕ → List (ℕ × List ℕ) → Type 0
-AllLong w [] = Unit {0}
-AllLong w (e ∷ r) = (length (e .1) ≡ w) × AllLong w r
-
-pick-length : (w : ℕ) (b : Bool) (x y : List ℕ) → length x ≡ w → length y ≡ w → length (pick b x y) ≡ w
-pick-length w true x y h k = h
-pick-length w false x y h k = k
-
-choose-length : (w k : ℕ) (rows : List (ℕ × List ℕ)) (d : List ℕ) → AllLong w rows → length d ≡ w → length (choose k rows d) ≡ w
-choose-length w k [] d h e = e
-choose-length w k (x ∷ rows) d h e = pick-length w (eqb k (x .0)) (x .1) (choose k rows d) (h .0) (choose-length w k rows d (h .1) e)
+-- a list of w bytes
+abbrev Long : ℕ → List ℕ → Type 0
+Long w x = length x ≡ w
 
 pub entry-length : (k : ℕ) → length (entry k) ≡ 14
 unfolding entry
 entry-length k =
-    choose-length 14 k entries (replicate 14 0) (refl, (refl, (refl, (refl, (refl, (refl, (refl, (refl, (refl, (refl, tt)))))))))) refl
+    choose-has (Long 14) k entries (replicate 14 0) (refl, (refl, (refl, (refl, (refl, (refl, (refl, (refl, (refl, (refl, tt)))))))))) refl
 
 pub cell-length : (k : ℕ) → length (cell k) ≡ 3
 unfolding cell
 cell-length k =
-    pick-length 3 (ltb k 16) (0 ∷ 0 ∷ 1 ∷ []) (choose k cellRows (0 ∷ 0 ∷ 0 ∷ [])) refl
-    (choose-length 3 k cellRows (0 ∷ 0 ∷ 0 ∷ []) (refl, (refl, tt)) refl)
+    pick-has (Long 3) (ltb k 16) (0 ∷ 0 ∷ 1 ∷ []) (choose k cellRows (0 ∷ 0 ∷ 0 ∷ [])) (λ _. refl)
+    (λ _. choose-has (Long 3) k cellRows (0 ∷ 0 ∷ 0 ∷ []) (refl, (refl, tt)) refl)
 
 pub row-length : (bound k : ℕ) → length (row bound k) ≡ 6
 unfolding row
-row-length bound k = choose-length 6 k (rows bound) (0 ∷ 0 ∷ 0 ∷ 0 ∷ 0 ∷ 0 ∷ []) (refl, (refl, (refl, tt))) refl
+row-length bound k = choose-has (Long 6) k (rows bound) (0 ∷ 0 ∷ 0 ∷ 0 ∷ 0 ∷ 0 ∷ []) (refl, (refl, (refl, tt))) refl

@@ -1,4 +1,4 @@
--- Records of a schedule: the eight bytes of one, and what its step says of the run.
+-- Records of a schedule: the bytes of one, and what its step says of the run.
 -- Assumes nothing.
 use mathlib.Core.Path.{_≡_, _∙_, sym, ap}
 use mathlib.Core.List.{List, _∷_, map}
@@ -8,9 +8,10 @@ use borrow.Author.Tests.{eq-eqb, ne-eqb}
 use lib.ListN.{length, getD, take, drop, length-take, length-drop, drop-of-length-le}
 use lib.Seq.{drop-cons}
 use Rattle.base.specs.Choice.{from}
+use Rattle.base.specs.Lengths.{romLength, recordLength}
 use Rattle.semantics.specs.declared.State.{State}
 use Rattle.semantics.specs.declared.Stepped.{Stepped}
-use Rattle.semantics.specs.Step.{stepWith, stepOf}
+use Rattle.semantics.specs.Step.{actedOf, settled, stepOf}
 use Rattle.semantics.specs.Run.{recordAt, runFrom, ran}
 
 -- a list from i on, element by element
@@ -22,20 +23,22 @@ elements (suc n) i l h =
     let e : i < length l = omega arith in
     rw (drop-cons l i 0 e) (ap (λ (r : List ℕ). getD l i 0 ∷ r) (elements n (suc i) l (omega arith)))
 
-pub eight-bytes : (l : List ℕ) → length l ≡ 8 → map (λ (k : ℕ). getD l k 0) (from 8 0) ≡ l
-eight-bytes l h = elements 8 0 l h
+pub record-elements : (l : List ℕ) → length l ≡ recordLength → map (λ (k : ℕ). getD l k 0) (from recordLength 0) ≡ l
+record-elements l h = elements recordLength 0 l h
 
 -- a step on the right lengths
-pub step-right : (image : List ℕ) (s : State) (rec : List ℕ) → length image ≡ 4096 → length rec ≡ 8 → stepOf image s rec ≡ stepWith image s rec
+pub step-right : (image : List ℕ) (s : State) (rec : List ℕ) → length image ≡ romLength → length rec ≡ recordLength
+    → stepOf image s rec ≡ settled s (actedOf image s rec)
 unfolding stepOf
 step-right image s rec h g = rw (h, g)
 
-module _ (n i : ℕ) (image schedule : List ℕ) (s : State) (r : Stepped) (size : length image ≡ 4096) (count : n ≡ length schedule / 8) (h : i < n)
-    (e : r ≡ stepWith image s (take (i * 8 + 8 - i * 8) (drop (i * 8) schedule))) where
+module _ (n i : ℕ) (image schedule : List ℕ) (s : State) (r : Stepped) (size : length image ≡ romLength)
+    (count : n ≡ length schedule / recordLength) (h : i < n)
+    (e : r ≡ settled s (actedOf image s (take (i * recordLength + recordLength - i * recordLength) (drop (i * recordLength) schedule)))) where
   this-step : r ≡ stepOf image s (recordAt schedule i)
   this-step =
-      let q : i * 8 + 8 - i * 8 ≡ 8 = omega arith in
-      let w : length (recordAt schedule i) ≡ 8 = simp (length-take, length-drop) (omega arith) in
+      let q : i * recordLength + recordLength - i * recordLength ≡ recordLength = omega arith in
+      let w : length (recordAt schedule i) ≡ recordLength = simp (length-take, length-drop) (omega arith) in
       rw q at e ∙ sym (step-right image s (recordAt schedule i) size w)
 
   next-record : n - i ≡ suc (n - (i + 1))

@@ -10,9 +10,10 @@ use lib.Dec.{eqb}
 use borrow.Author.Tests.{eqb-true, eqb-false}
 use Rattle.base.specs.declared.RomAddr.{RomAddr}
 use Rattle.base.specs.Choice.{pick}
+use Rattle.base.specs.ChoiceLaws.{pick-has}
 use Rattle.base.specs.Outcome.{Outcome}
 use Rattle.base.specs.Outcome.Outcome.{value, refused}
-use Rattle.base.specs.Lengths.{romLength}
+use Rattle.base.specs.Lengths.{isImageLength, recordLength}
 use Rattle.isa.specs.declared.Instruction.{Instruction}
 use Rattle.isa.specs.Map.{cyclesOf}
 use Rattle.decode.specs.Decode.{decodeAt}
@@ -22,7 +23,7 @@ use Rattle.semantics.specs.declared.State.{State}
 use Rattle.semantics.specs.declared.Stepped.{Stepped}
 use Rattle.semantics.specs.declared.Ran.{Ran}
 use Rattle.semantics.specs.Execute.{Executed}
-use Rattle.semantics.specs.Step.{recordLength, entryDue, refuse, finishOf, entryCost, afterDecode, instructionStep, modeStep, stepAfterRequests, requested, stepWith, stepOf}
+use Rattle.semantics.specs.Step.{Acted, entryDue, finishOf, entryCost, afterDecode, instructionAct, modeAct, actAfterRequests, requested, actedOf, settled, stepOf}
 use Rattle.semantics.specs.Run.{ran, recordAt, runFrom, runOf}
 
 -- the cycles of what was decoded, by its first byte; what does not decode costs nothing
@@ -57,62 +58,67 @@ costsOf (suc k) image schedule i s =
 -- how many steps a run completes, and what they cost: none where a length is wrong
 unfoldable pub completedSteps : List ℕ → State → List ℕ → ℕ
 completedSteps image s schedule =
-    pick (eqb (length image) romLength && eqb (length schedule % recordLength) 0)
+    pick (isImageLength (length image) && eqb (length schedule % recordLength) 0)
     (completedOf (length schedule / recordLength) image schedule 0 s)
     0
 
 unfoldable pub totalCost : List ℕ → State → List ℕ → ℕ
 totalCost image s schedule =
-    pick (eqb (length image) romLength && eqb (length schedule % recordLength) 0)
+    pick (isImageLength (length image) && eqb (length schedule % recordLength) 0)
     (costsOf (length schedule / recordLength) image schedule 0 s)
     0
 
 -- a step that is completed adds its cost to the cycle total; a step that is refused leaves the state before it
-pub record Accounts (s : State) (cost : ℕ) (r : Stepped) : Type 0 where
-  pub completed : r .stop ≡ 0 → r .state .cycles ≡ (s .cycles + cost) % 4294967296
-  pub refused : (r .stop ≡ 0 → ⊥) → r .state ≡ s
-
-chosen : {A : Type 0} (P : A → Type 0) (b : Bool) (x y : A) → (b ≡ true → P x) → (b ≡ false → P y) → P (pick b x y)
-chosen P true x y p q = p refl
-chosen P false x y p q = q refl
+pub record Accounts (s : State) (cost : ℕ) (after : State) (stop : ℕ) : Type 0 where
+  pub completed : stop ≡ 0 → after .cycles ≡ (s .cycles + cost) % 4294967296
+  pub refused : (stop ≡ 0 → ⊥) → after ≡ s
 
 module _ (s : State) (small : s .cycles < 4294967296) where
   same-total : s .cycles ≡ (s .cycles + 0) % 4294967296
   same-total = omega arith
 
-  refuse-accounts : (n cost : ℕ) → (n ≡ 0 → ⊥) → Accounts s cost (refuse s n)
+  -- the first half of the step
+  abbrev ActAccounts : ℕ → Acted → Type 0
+  ActAccounts cost a = Accounts s cost (a .state) (a .stop)
+
+  refuse-accounts : (n cost : ℕ) → (n ≡ 0 → ⊥) → Accounts s cost s n
   refuse-accounts n cost h = record { completed = λ z. absurd (h z); refused = λ _. refl }
 
-  finish-accounts : (e : Executed) (cost : ℕ) → Accounts s cost (finishOf s e cost)
+  finish-accounts : (e : Executed) (retired : Bool) (cost : ℕ) → ActAccounts cost (finishOf s e retired cost)
   unfolding finishOf
-  finish-accounts e cost =
-      chosen (Accounts s cost) (eqb (e .next .stop) 0) _ _
+  finish-accounts e retired cost =
+      pick-has (ActAccounts cost) (eqb (e .next .stop) 0) _ _
       (λ _. record { completed = λ _. refl; refused = λ h. absurd (h refl) })
       (λ h. refuse-accounts (e .next .stop) cost (eqb-false (e .next .stop) 0 h))
 
   decode-accounts : (o : Outcome (Instruction × ℕ)) (image regs rec : List ℕ)
-      → Accounts s (decodedCost o (getD image (s .pc .0) 0)) (afterDecode o image s regs rec)
+      → ActAccounts (decodedCost o (getD image (s .pc .0) 0)) (afterDecode o image s regs rec)
   unfolding decodedCost afterDecode
-  decode-accounts (value d) image regs rec = finish-accounts _ _
+  decode-accounts (value d) image regs rec = finish-accounts _ true _
   decode-accounts (refused n) image regs rec = record { completed = λ _. same-total; refused = λ _. refl }
 
-  mode-accounts : (m : Mode) (image regs rec : List ℕ) → Accounts s (modeCost m image (s .pc)) (modeStep m image s regs rec)
-  unfolding modeCost modeStep instructionStep
+  mode-accounts : (m : Mode) (image regs rec : List ℕ) → ActAccounts (modeCost m image (s .pc)) (modeAct m image s regs rec)
+  unfolding modeCost modeAct instructionAct
   mode-accounts Running image regs rec = decode-accounts (decodeAt image (s .pc .0)) image regs rec
-  mode-accounts Idle image regs rec = record { completed = λ _. same-total; refused = λ h. absurd (h refl) }
-  mode-accounts Stopped image regs rec = record { completed = λ _. same-total; refused = λ h. absurd (h refl) }
+  mode-accounts Idle image regs rec = record { completed = λ _. refl; refused = λ h. absurd (h refl) }
+  mode-accounts Stopped image regs rec = record { completed = λ _. refl; refused = λ h. absurd (h refl) }
 
   due-accounts : (b : Bool) (image regs rec : List ℕ)
-      → Accounts s (pick b entryCost (modeCost (s .mode) image (s .pc))) (stepAfterRequests b image s regs rec)
-  unfolding stepAfterRequests
-  due-accounts true image regs rec = finish-accounts _ entryCost
+      → ActAccounts (pick b entryCost (modeCost (s .mode) image (s .pc))) (actAfterRequests b image s regs rec)
+  unfolding actAfterRequests
+  due-accounts true image regs rec = finish-accounts _ false entryCost
   due-accounts false image regs rec = mode-accounts (s .mode) image regs rec
 
-  pub step-accounts : (image rec : List ℕ) → Accounts s (costOf image s rec) (stepOf image s rec)
-  unfolding stepOf stepWith costOf
+  -- what settles keeps the cycle total and the number
+  settled-accounts : (cost : ℕ) (a : Acted) → ActAccounts cost a → Accounts s cost (settled s a .state) (settled s a .stop)
+  unfolding settled
+  settled-accounts cost a h = h
+
+  pub step-accounts : (image rec : List ℕ) → Accounts s (costOf image s rec) (stepOf image s rec .state) (stepOf image s rec .stop)
+  unfolding stepOf actedOf costOf
   step-accounts image rec =
-      chosen (Accounts s _) (eqb (length image) romLength && eqb (length rec) recordLength) _ _
-      (λ _. due-accounts (entryDue (requested s rec) (s .mode)) image (requested s rec) rec)
+      pick-has (λ (r : Stepped). Accounts s (costOf image s rec) (r .state) (r .stop)) (isImageLength (length image) && eqb (length rec) recordLength) _ _
+      (λ _. settled-accounts _ _ (due-accounts (entryDue (requested s rec) (s .mode)) image (requested s rec) rec))
       (λ _. refuse-accounts 7 _ (λ h. absurd (omega (arith, h))))
 
 -- the steps of a run are the completed ones
@@ -166,7 +172,7 @@ pub record Counted (count cost : ℕ) (s : State) (r : Ran) : Type 0 where
 pub run-counted : (image schedule : List ℕ) (s : State) → s .cycles < 4294967296
     → Counted (completedSteps image s schedule) (totalCost image s schedule) s (runOf image s schedule)
 unfolding runOf completedSteps totalCost
-run-counted image schedule s small = on (eqb (length image) romLength && eqb (length schedule % recordLength) 0)
+run-counted image schedule s small = on (isImageLength (length image) && eqb (length schedule % recordLength) 0)
   where
     n : ℕ
     n = length schedule / recordLength

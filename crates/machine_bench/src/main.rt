@@ -1,46 +1,22 @@
 // Runs of the machine, to be timed: `machine_bench WHAT COUNT`. The first argument is the program, 0 for all, the second is thousands of records.
 // `bench/run` times it and prints a table; the gate's run is short and compares what each program leaves.
+use base::IMAGE_LENGTH;
+use base::RECORD_LENGTH;
+use bench_support::put;
 use libc::STDOUT_FILENO;
 use semantics::State;
 
-// The records of one call of `run`.
+// The records of one call of `run`, and their bytes.
 const PART: usize = 1000;
+
+const SCHEDULE: usize = PART * RECORD_LENGTH;
 
 // Where reset starts.
 const START: usize = 0x100;
 
-// The number that an argument's decimal digits give.
-fn number(text: &[u8]) -> u64 {
-    let mut n: u64 = 0;
-    let mut i = 0;
-    while i < text.len() {
-        n = n % 1000000 * 10 + (text[i] % 16) as u64;
-        i += 1;
-    }
-    n
-}
-
-// The byte i places behind an address; past the end it is dropped.
-fn set(image: &mut [u8; 4096], at: usize, i: usize, v: u8) {
-    if at < 4096 {
-        if i < 4096 - at {
-            image[at + i] = v;
-        }
-    }
-}
-
-// Bytes of an image, from an address on.
-fn put(image: &mut [u8; 4096], at: usize, bytes: &[u8]) {
-    let mut i = 0;
-    while i < bytes.len() {
-        set(image, at, i, bytes[i]);
-        i += 1;
-    }
-}
-
 // A loop that calls a routine, pushes and pops. The routine adds over a table by a pointer, and works on what it has added. The service
 // clears its pending bit.
-fn mixed_program(image: &mut [u8; 4096]) {
+fn mixed_program(image: &mut [u8; IMAGE_LENGTH]) {
     put(image, 0, b"\x01\x80");
     // LD SP,#C0H; LD P0PND,#02H; EI; LD R4,#01H; CALL 0140H; PUSH R4; POP R5; JR to CALL
     put(
@@ -67,7 +43,7 @@ fn row_of(what: u64) -> u8 {
 }
 
 // A row of a table, 24 bytes, to where reset starts.
-fn put_row(image: &mut [u8; 4096], rows: &[u8], row: u8) {
+fn put_row(image: &mut [u8; IMAGE_LENGTH], rows: &[u8], row: u8) {
     let at = 24 * (row as usize);
     let end = at + 24;
     if end <= rows.len() {
@@ -87,7 +63,7 @@ fn put_row(image: &mut [u8; 4096], rows: &[u8], row: u8) {
 // 11: LD R4,#01H; LDC R3,@RR4; LDCI R3,@RR4; LDC R3,05H[RR4]; LDC R3,0100H; JR
 // 12: JR C,+0; JR NC,+0; JR Z,+0; JR NZ,+0; JR ULE,+0; JR GT,+0; JP to the start
 // 13: RCF; SCF; CCF; NOP; DI; EI; JR
-fn group(what: u64, image: &mut [u8; 4096]) {
+fn group(what: u64, image: &mut [u8; IMAGE_LENGTH]) {
     put(image, 0x140, b"\xAF");
     put_row(
         image,
@@ -106,8 +82,8 @@ fn group(what: u64, image: &mut [u8; 4096]) {
     );
 }
 
-fn program(what: u64) -> [u8; 4096] {
-    let mut image = [255u8; 4096];
+fn program(what: u64) -> [u8; IMAGE_LENGTH] {
+    let mut image = [255u8; IMAGE_LENGTH];
     if (what == 2) | (what == 3) {
         mixed_program(&mut image);
     } else {
@@ -117,15 +93,15 @@ fn program(what: u64) -> [u8; 4096] {
 }
 
 // The schedule of one part: a request of P0.0 in one record of `every`, or none where it is 0.
-fn schedule(every: usize) -> [u8; 8000] {
-    let mut records = [0u8; 8000];
+fn schedule(every: usize) -> [u8; SCHEDULE] {
+    let mut records = [0u8; SCHEDULE];
     if every == 0 {
         return records;
     }
     let mut i = 0;
     while i < PART {
         if i % every == 0 {
-            records[i * 8] = 4;
+            records[i * RECORD_LENGTH] = 4;
         }
         i += 1;
     }
@@ -133,7 +109,7 @@ fn schedule(every: usize) -> [u8; 8000] {
 }
 
 // The program from reset for `parts` parts.
-fn run_parts(image: &[u8; 4096], records: &[u8; 8000], parts: u64) -> State {
+fn run_parts(image: &[u8; IMAGE_LENGTH], records: &[u8; SCHEDULE], parts: u64) -> State {
     let mut state = machine::reset();
     let mut left = parts;
     while left > 0 {
@@ -170,26 +146,21 @@ fn work(what: u64, count: u64) {
     tell(what, run_parts(&program(what), &schedule(every), count));
 }
 
-fn work_all(count: u64) {
-    let mut what: u64 = 1;
-    while what < 14 {
-        work(what, count);
-        what += 1;
-    }
-}
-
 fn argument(i: usize) -> u64 {
     let mut text = [0u8; 16];
     let n = os::arg(i, &mut text);
-    number(&text[..n])
+    bench_support::number(&text[..n])
 }
 
+// Two calls of `work` keep it a function of its own. With one the compiler puts it into `main`, and a step takes 3 in a hundred more instructions.
 fn main() {
-    let what = argument(1);
     let count = argument(2);
-    if what == 0 {
-        work_all(count);
-    } else {
+    let rows = bench_support::rows_of(argument(1), 13);
+    let last = rows.last;
+    let mut what = rows.first;
+    work(what, count);
+    while what < last {
+        what += 1;
         work(what, count);
     }
 }

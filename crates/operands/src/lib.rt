@@ -10,13 +10,14 @@ use action::Operand;
 use alu::FlagUpdate;
 use base::RegAddr;
 use base::RomAddr;
+use chip::Inputs;
 use semantics::Fetched;
 use semantics::Mode;
 use semantics::Next;
 use semantics::Place;
 
 // The place of an operand; a number has none.
-pub fn place_of(regs: &[u8; 256], rec: &[u8; 8], o: Operand) -> Place
+pub fn place_of(regs: &[u8; 256], rec: &Inputs, o: Operand) -> Place
     ensures { λ r. ⌜ r ≡ placeOf (now (regs .entry)) (now (rec .entry)) o ⌝ }
 {
     match o {
@@ -39,7 +40,7 @@ pub fn place_of(regs: &[u8; 256], rec: &[u8; 8], o: Operand) -> Place
 }
 
 // What stands at an operand's place.
-fn fetch_place(regs: &[u8; 256], rec: &[u8; 8], p: Place) -> Fetched
+fn fetch_place(regs: &[u8; 256], rec: &Inputs, p: Place) -> Fetched
     ensures { λ r. ⌜ r ≡ fetchPlace (now (regs .entry)) (now (rec .entry)) p ⌝ }
 {
     let a = p.addr;
@@ -50,7 +51,7 @@ fn fetch_place(regs: &[u8; 256], rec: &[u8; 8], p: Place) -> Fetched
 }
 
 // An operand's byte.
-pub fn fetch(regs: &[u8; 256], rec: &[u8; 8], o: Operand) -> Fetched
+pub fn fetch(regs: &[u8; 256], rec: &Inputs, o: Operand) -> Fetched
     ensures { λ r. ⌜ r ≡ fetchOf (now (regs .entry)) (now (rec .entry)) o ⌝ }
 {
     match o {
@@ -83,7 +84,7 @@ pub fn word(high: u8, low: u8) -> u16
 }
 
 // The word at a register and the one behind it.
-pub fn word_at(regs: &[u8; 256], rec: &[u8; 8], a: RegAddr) -> u16
+pub fn word_at(regs: &[u8; 256], rec: &Inputs, a: RegAddr) -> u16
     ensures { λ r. ⌜ r ≡ wordAt (now (regs .entry)) (now (rec .entry)) (a .0) ⌝ }
 {
     word(chip::load(regs, rec, a), chip::load(regs, rec, behind(a)))

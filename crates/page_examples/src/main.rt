@@ -3,6 +3,8 @@
 // example does not name has to stay as it was: all 256 registers, program counter, mode, cycle total and refusal are compared. What a page
 // leaves open (RAM, FLAGS, SP) is tried as all zeros and as all ones.
 ghost use Prim.Native.Nat.{_<_};
+use base::IMAGE_LENGTH;
+use base::RECORD_LENGTH;
 use base::RomAddr;
 use base::byte_at;
 use libc::STDOUT_FILENO;
@@ -53,6 +55,9 @@ const REFUSED: usize = 259;
 const UNREADABLE: usize = 260;
 
 const NONE: usize = 261;
+
+// The most steps that an example can ask for.
+const MOST_STEPS: usize = 8;
 
 // The position in the text, the line of the last `given`, and the numbers of examples that were compared, and that differ.
 struct Walk {
@@ -185,8 +190,8 @@ fn key_of(text: &[u8], at: usize, end: usize) -> Key {
 }
 
 // A ROM byte; past the end it is dropped.
-fn put_rom(image: &mut [u8; 4096], at: usize, v: u8) {
-    if at < 4096 {
+fn put_rom(image: &mut [u8; IMAGE_LENGTH], at: usize, v: u8) {
+    if at < IMAGE_LENGTH {
         image[at] = v;
     }
 }
@@ -249,7 +254,7 @@ fn set(
     at: usize,
     end: usize,
     regs: &mut [u8; 256],
-    image: &mut [u8; 4096],
+    image: &mut [u8; IMAGE_LENGTH],
     rest: Rest,
 ) -> Rest {
     let mut r = rest;
@@ -268,7 +273,7 @@ fn set(
 }
 
 // A word without `=`: a byte of code, a bar, or nothing between two spaces.
-fn code(text: &[u8], at: usize, end: usize, image: &mut [u8; 4096], rest: Rest) -> Rest {
+fn code(text: &[u8], at: usize, end: usize, image: &mut [u8; IMAGE_LENGTH], rest: Rest) -> Rest {
     if (at == end) | (byte_at(text, at) == b'|') {
         return rest;
     }
@@ -287,7 +292,7 @@ fn word(
     at: usize,
     end: usize,
     regs: &mut [u8; 256],
-    image: &mut [u8; 4096],
+    image: &mut [u8; IMAGE_LENGTH],
     rest: Rest,
 ) -> Rest {
     let equals = find(text, at, end, b'=');
@@ -315,7 +320,7 @@ fn words(
     from: usize,
     end: usize,
     regs: &mut [u8; 256],
-    image: &mut [u8; 4096],
+    image: &mut [u8; IMAGE_LENGTH],
     rest: Rest,
 ) -> Rest {
     let mut turns = 1000usize;
@@ -392,13 +397,18 @@ fn stepped(ran: Ran) -> Stepped {
 }
 
 // So many steps, under records that request nothing and read zeros.
-fn steps_from(image: &[u8; 4096], state: State, steps: u8) -> Stepped {
+fn steps_from(image: &[u8; IMAGE_LENGTH], state: State, steps: u8) -> Stepped {
     if steps == 1 {
-        let rec = [0u8; 8];
+        let rec = [0u8; RECORD_LENGTH];
         return machine::step(image, state, &rec);
     }
-    let schedule = [0u8; 64];
-    run_from(image, state, &schedule, ((steps % 9) as usize) * 8)
+    let schedule = [0u8; MOST_STEPS * RECORD_LENGTH];
+    run_from(
+        image,
+        state,
+        &schedule,
+        (steps as usize) % (MOST_STEPS + 1) * RECORD_LENGTH,
+    )
 }
 
 // The machine that a page gives.
@@ -467,7 +477,7 @@ fn first_difference(found: &[u8; 256], expected: &[u8; 256], rest: Difference) -
 
 // Runs the example of a line on what the page gives, and compares.
 fn example(text: &[u8], given: usize, at: usize, end: usize, open: u8) -> Difference {
-    let mut image = [255u8; 4096];
+    let mut image = [255u8; IMAGE_LENGTH];
     let mut regs = open_registers(open);
     let colon = find(text, at, end, b':');
     let arrow = find(text, colon, end, b'>');

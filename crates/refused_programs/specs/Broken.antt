@@ -6,8 +6,10 @@ use mathlib.Core.Logic.{_≢_}
 use mathlib.Core.List.{List}
 use Prim.Native.Nat.{ℕ, zero, suc, _+_, _*_, _/_, _%_, _≤_, _<_}
 use native.Mathlib.Omega.{arith}
-use lib.ListN.{length, getD, replicate, length-replicate}
+use lib.ListN.{length, replicate, length-replicate}
 use Rattle.base.specs.Addresses.{romAddr}
+use Rattle.base.specs.Cells.{filled-cells}
+use Rattle.base.specs.Lengths.{romLength, recordLength}
 use Rattle.semantics.specs.Reset.{resetState}
 use Rattle.semantics.specs.ResetLaws.{reset-is-reset}
 use Rattle.semantics.specs.Run.{recordAt}
@@ -23,11 +25,6 @@ pub record Breaks (p : Program) (rule address : ℕ) : Type 0 where
   pub verdict : verdictOn (certificate p) (p .image) ≡ Refused rule (romAddr address)
   pub broken : Demand3 (certificate p) (p .image) → ⊥
 
-ones : (n i : ℕ) → getD (replicate n 1) i 0 < 256
-ones zero i = omega arith
-ones (suc n) zero = omega arith
-ones (suc n) (suc i) = ones n i
-
 module _ (p : Program) where
   -- step k is right, counted from record i on
   abbrev RightAt : ℕ → (ℕ → ℕ) → List ℕ → ℕ → Monitored → Type 0
@@ -41,14 +38,16 @@ module _ (p : Program) where
   right-at (suc k) tables schedule i m w =
       right-at k tables schedule (i + 1) (monitorStep (certificate p) (p .image) m (recordAt schedule i)) (w .1)
 
-  -- step k of the run from the reset state whose open bytes are 0; each byte of the schedule is 1, so each record requests timer 0's interrupt
+  -- step k of the run from the reset state whose open bytes are 0; each byte of the schedule is 4, so each record requests the first external
+  -- source's interrupt
   step : (d : Demand3 (certificate p) (p .image)) (k : ℕ)
-      → RightAt k (d .0) (replicate (8 * suc k) 1) 0 (fromReset (certificate p) (p .image) resetState)
+      → RightAt k (d .0) (replicate (recordLength * suc k) 4) 0 (fromReset (certificate p) (p .image) resetState)
   step d k =
-      let schedule : List ℕ = replicate (8 * suc k) 1 in
-      let l = length-replicate {A = ℕ} (8 * suc k) 1 in
-      let e : length schedule / 8 ≡ suc k = omega arith in
-      let r = d .1 resetState reset-is-reset schedule (record { whole = omega arith; bytes = ones (8 * suc k) }) in
+      let schedule : List ℕ = replicate (recordLength * suc k) 4 in
+      let l = length-replicate {A = ℕ} (recordLength * suc k) 4 in
+      let e : length schedule / recordLength ≡ suc k = omega arith in
+      let b = filled-cells (λ (i x : ℕ). x < 256) (recordLength * suc k) 4 (λ (i : ℕ). omega arith) (λ (i : ℕ). omega arith) in
+      let r = d .1 resetState reset-is-reset schedule (record { whole = omega arith; bytes = b }) in
       right-at k (d .0) schedule 0 (fromReset (certificate p) (p .image) resetState)
       (subst (λ (n : ℕ). Walk (certificate p) (p .image) n (d .0) schedule 0 (fromReset (certificate p) (p .image) resetState)) e (r .walk))
 
@@ -131,7 +130,7 @@ fetching-breaks = record {
   verdict = verdict-is fetching tt refl;
   broken = λ d.
       let stops : _≡_ {A = ℕ} 14 0 = step fetching d 1 .goes in
-      let outside : 0x1000 < 4096 = step fetching d 1 .event .pointers in
+      let outside : 0x1000 < romLength = step fetching d 1 .event .pointers in
       omega arith;
 }
 

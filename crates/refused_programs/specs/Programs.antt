@@ -4,6 +4,7 @@ use mathlib.Core.List.{List, [], _∷_, _++_}
 use Prim.Native.Nat.{ℕ, _-_}
 use lib.ListN.{length, replicate}
 use Rattle.base.specs.Choice.{choose}
+use Rattle.base.specs.Lengths.{romLength}
 use Rattle.certificate.specs.Layout.{Certificate, certificateFrom}
 use Rattle.logger_cases.specs.Gathered.{upTo}
 
@@ -31,7 +32,7 @@ padded code = code ++ replicate (32 - length code) 0xFF
 
 unfoldable pub imageOf : List ℕ → List ℕ → List ℕ → List ℕ
 imageOf main routine service =
-    (0x01 ∷ 0x40 ∷ []) ++ (replicate 254 0xFF ++ (padded main ++ (padded routine ++ (padded service ++ replicate 3744 0xFF))))
+    (0x01 ∷ 0x40 ∷ []) ++ (replicate 254 0xFF ++ (padded main ++ (padded routine ++ (padded service ++ replicate (romLength - codeEnd) 0xFF))))
 
 -- the entry of an address, with one claim: routine, depth, B below 256; cell, lo, hi
 abbrev claiming : ℕ → ℕ → ℕ → ℕ → ℕ → ℕ → ℕ → ℕ × List ℕ
@@ -66,12 +67,12 @@ calling routine need entries rows =
     programOf (0xE6 ∷ 0xD9 ∷ 0xC0 ∷ 0xF6 ∷ 0x01 ∷ 0x20 ∷ 0x8B ∷ 0xFB ∷ []) routine need
     (entry 0x100 1 255 0 ∷ entry 0x103 1 0 0 ∷ entry 0x106 1 0 0 ∷ entries) [] rows 0xA0
 
--- main is LD SP,#C0H; LD T0CON,#02H; EI, then a jump to itself; the service, with its need and bound
+-- main is LD SP,#C0H; LD P0PND,#02H, which enables the first external source; EI, then a jump to itself; the service, with its need and bound
 abbrev interrupted : List ℕ → ℕ → ℕ → List (ℕ × List ℕ) → Program
 interrupted service need bound entries = record {
-  image = imageOf (0xE6 ∷ 0xD9 ∷ 0xC0 ∷ 0xE6 ∷ 0xD2 ∷ 0x02 ∷ 0x9F ∷ 0x8B ∷ 0xFE ∷ []) [] service;
+  image = imageOf (0xE6 ∷ 0xD9 ∷ 0xC0 ∷ 0xE6 ∷ 0xE8 ∷ 0x02 ∷ 0x9F ∷ 0x8B ∷ 0xFE ∷ []) [] service;
   entries = entry 0x100 1 255 0 ∷ entry 0x103 1 0 0 ∷ entry 0x106 1 0 0 ∷ entry 0x107 1 0 0 ∷ entries;
-  cells = mains 0xD2 ∷ [];
+  cells = mains 0xE8 ∷ [];
   rows = row 1 0x00 1 0 0 ∷ row 2 0x40 2 need bound ∷ [];
   floor = 0xA0;
 }

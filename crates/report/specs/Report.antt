@@ -8,7 +8,7 @@ use Rattle.base.specs.Choice.{pick}
 use Rattle.base.specs.Outcome.{Outcome, onOutcome}
 use Rattle.base.specs.Outcome.Outcome.{value, refused}
 use Rattle.base.specs.Formula.{decide}
-use Rattle.base.specs.Lengths.{certificateLength}
+use Rattle.base.specs.Lengths.{isCertificateLength}
 use Rattle.hex_write.specs.ImageText.{hexDigit}
 use Rattle.certificate.specs.declared.Verdict.{Verdict}
 use Rattle.certificate.specs.declared.Verdict.the-variants.{Accepted, Refused}
@@ -74,7 +74,7 @@ longestReport = 1143
 -- the length of the text; 7: a certificate of another length, or too short a buffer
 unfoldable pub reportAnswer : Verdict → List ℕ → ℕ → Outcome ℕ
 reportAnswer verdict cert room =
-    pick (eqb (length cert) certificateLength)
+    pick (isCertificateLength (length cert))
     (pick (ltb room longestReport) (refused 7) (value (length (reportText verdict (certificateOf cert)))))
     (refused 7)
 

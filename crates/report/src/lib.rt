@@ -11,8 +11,6 @@ use base::RomAddr;
 use certificate::Verdict;
 use hex_write::Written;
 
-const CERTIFICATE_LENGTH: usize = 58498;
-
 // `accepted` and its LF, and 63 rows of at most 18 bytes.
 const LONGEST: usize = 1143;
 
@@ -128,7 +126,7 @@ pub fn write_report(verdict: Verdict, cert: &[u8], out: &mut [u8]) -> Written
     ensures { λ r. ⌜ writtenOutcome r ≡ reportAnswer verdict (now (cert .entry)) (length (now (out .entry))) ⌝ }
     ensures { λ r. ⌜ now (out .exit) ≡ reportBuffer verdict (now (cert .entry)) (now (out .entry)) ⌝ }
 {
-    if cert.len() != CERTIFICATE_LENGTH {
+    if !base::is_certificate_length(cert.len()) {
         return Written::WrongLength;
     }
     if out.len() < LONGEST {

@@ -141,7 +141,7 @@ fn start_rule(cert: &[u8], n: u8) -> bool
     let row = entries::routine_row(cert, n);
     let e = entries::entry_of(entries::entry_part(cert, row.start));
     let own = (e.routine == n) & (e.depth == start_depth(n));
-    !used(cert, n) | (row.start.0 < 4096) & own & ((row.side == 1) | (row.side == 2))
+    !used(cert, n) | (row.start.0 < base::ROM_END) & own & ((row.side == 1) | (row.side == 2))
 }
 
 // Without claims or compare.
@@ -182,7 +182,7 @@ fn addresses_rule(cert: &[u8]) -> bool
     ensures { λ r. ⌜ r ≡ decide (addressesRule (certificateOf (now (cert .entry)))) ⌝ }
 {
     let mut a: u16 = 0;
-    while a < 4096 {
+    while a < base::ROM_END {
         if !address_rule(cert, RomAddr(a)) {
             return false;
         }

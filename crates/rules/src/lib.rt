@@ -67,7 +67,7 @@ fn successor(cert: &[u8], a: RomAddr, t: RomAddr) -> bool
 {
     let e = entries::entry_of(entries::entry_part(cert, a));
     let to = entries::entry_of(entries::entry_part(cert, t));
-    (t.0 < 4096) & (to.routine == e.routine)
+    (t.0 < base::ROM_END) & (to.routine == e.routine)
 }
 
 // CALL goes to the start of a greater number on the same side.
@@ -78,7 +78,7 @@ fn call_target(cert: &[u8], a: RomAddr, t: RomAddr) -> bool
     let to = entries::entry_of(entries::entry_part(cert, t));
     let row = entries::routine_row(cert, to.routine);
     let start = row.start.0 == t.0;
-    (t.0 < 4096) & ((e.routine < to.routine) & (start & (row.side == side_at(cert, a))))
+    (t.0 < base::ROM_END) & ((e.routine < to.routine) & (start & (row.side == side_at(cert, a))))
 }
 
 fn edges21(cert: &[u8], a: RomAddr, f: Flow, next: RomAddr) -> bool
@@ -257,7 +257,7 @@ fn pair_in_rom(cert: &[u8], a: RomAddr, p: RegAddr, up: u16, down: u16) -> bool
 {
     let low = claims::low(cert, a, p) as u32 * 256 + up as u32;
     let high = claims::high(cert, a, p) as u32 * 256 + 255 + up as u32;
-    let inside = (down as u32 <= low) & (high < 4096 + down as u32);
+    let inside = (down as u32 <= low) & (high < base::ROM_END as u32 + down as u32);
     claims::claimed(cert, a, p) & inside
 }
 
@@ -266,7 +266,7 @@ fn code_in_rom(cert: &[u8], a: RomAddr, c: CodeAccess) -> bool
 {
     match c {
         CodeAccess::Nothing => true,
-        CodeAccess::Direct(t) => t.0 < 4096,
+        CodeAccess::Direct(t) => t.0 < base::ROM_END,
         CodeAccess::Pair(p, up, down) => pair_in_rom(cert, a, p, up, down),
     }
 }

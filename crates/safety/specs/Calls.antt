@@ -10,6 +10,7 @@ use lib.Dec.{T, eqb, ltb, eqb→eq, ltb→lt}
 use Rattle.base.specs.declared.RomAddr.{RomAddr}
 use Rattle.base.specs.Choice.{pick}
 use Rattle.base.specs.Formula.{Holds, eq, _&_, same?, le?, of-true, eqb-yes}
+use Rattle.base.specs.Lengths.{romLength}
 use Rattle.chip.specs.Registers.{storeOf}
 use Rattle.chip.specs.Laws.{mapped-ram, load-ram, store-other, store-ram}
 use Rattle.alu.specs.Laws.{condition-always}
@@ -68,7 +69,7 @@ pub record AddressPushed (r r′ : List ℕ) (a : ℕ) : Type 0 where
   pub back : at r′ (at r′ spCell) * 256 + at r′ (at r′ spCell + 1) ≡ a
   pub other : (x : ℕ) → x ≢ spCell → x + 1 ≢ at r spCell → x + 2 ≢ at r spCell → at r′ x ≡ at r x
 
-pub push-address : (r : List ℕ) (a : RomAddr) → Registers r → a .0 < 4096 → 2 ≤ at r spCell → at r spCell ≤ 0xC0
+pub push-address : (r : List ℕ) (a : RomAddr) → Registers r → a .0 < romLength → 2 ≤ at r spCell → at r spCell ≤ 0xC0
     → (pushAddress r a .ok ≡ true) × AddressPushed r (pushAddress r a .regs) (a .0)
 unfolding pushAddress
 push-address r a g ha hl hh =
@@ -137,7 +138,7 @@ survives-now C a k r r″ regs cl x l h hx same m =
     (le? k (C .limit x))
 
 -- the bound behind a CALL of the routine at t
-bound-after-call : (C : Certificate) → CertificateFacts C → (a t next : ℕ) (r r″ : List ℕ) → next < 4096 → EntryFacts C a → EntryFacts C next
+bound-after-call : (C : Certificate) → CertificateFacts C → (a t next : ℕ) (r r″ : List ℕ) → next < romLength → EntryFacts C a → EntryFacts C next
     → Claims C next r″ → (C .firstCell a < ramEnd → C .limit (C .firstCell a) < C .routine t → at r″ (C .firstCell a) ≡ at r (C .firstCell a))
     → C .bound (C .routine t) + boundNow C next r″ ≤ boundAfterCall C a next t (firstNow C a r)
 unfolding boundAfterCall sameFirst
@@ -228,7 +229,7 @@ module _ (C : Certificate) (image : List ℕ) (global : Global C image) (more : 
       let hm = v .home in
       let u = v .used in
       let hn : C .routine next ≡ C .routine a = m .target .0 .1 in
-      let nN : next < 4096 = m .target .0 .0 in
+      let nN : next < romLength = m .target .0 .0 in
       let en : EntryFacts C next = global .entry next nN (omega arith) in
       let up : C .routine a < C .routine t = m .target .1 .1 .0 in
       let sd : C .side (C .routine t) ≡ C .side (C .routine a) = m .target .1 .1 .1 .1 in
@@ -290,7 +291,7 @@ module _ (C : Certificate) (image : List ℕ) (global : Global C image) (more : 
       let e = entry-of C image global true r a f fs v in
       let hm = v .home in
       let u = v .used in
-      let tN : t < 4096 = m .target .1 .0 in
+      let tN : t < romLength = m .target .1 .0 in
       let up : C .routine a < C .routine t = m .target .1 .1 .0 in
       let st : C .start (C .routine t) ≡ t = m .target .1 .1 .1 .0 in
       let sd : C .side (C .routine t) ≡ C .side (C .routine a) = m .target .1 .1 .1 .1 in

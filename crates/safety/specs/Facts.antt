@@ -8,6 +8,7 @@ use Prim.Native.Nat.{ℕ, _+_, _*_, _≤_, _<_}
 use native.Mathlib.Omega.{arith}
 use lib.ListN.{getD}
 use Rattle.base.specs.Formula.{Holds, same?, le?, case-bool}
+use Rattle.base.specs.Lengths.{romLength}
 use Rattle.chip.specs.Registers.{mappedOf}
 use Rattle.certificate.specs.Layout.{Certificate}
 use Rattle.safety.specs.Rules.{ramEnd, unloaded, noCell, worst, used, cellRule, claimable, claimRule, compareRule, entryRule, addressRule, startRule, bareRule, rule20, rowRule, rule25, rule27, writable}
@@ -47,7 +48,7 @@ pub record Global (C : Certificate) (image : List ℕ) : Type 0 where
   pub mainFirst : C .firstCell 0x100 ≡ noCell
   pub mainSecond : C .secondCell 0x100 ≡ noCell
   pub mainCompare : C .compareCell 0x100 ≡ noCell
-  pub vectorInRom : vectorOf image < 4096
+  pub vectorInRom : vectorOf image < romLength
   pub serviceRoutine : C .routine (vectorOf image) ≡ 2
   pub serviceDepth : C .depth (vectorOf image) ≡ 0
   pub serviceFirst : C .firstCell (vectorOf image) ≡ noCell
@@ -55,9 +56,9 @@ pub record Global (C : Certificate) (image : List ℕ) : Type 0 where
   pub serviceCompare : C .compareCell (vectorOf image) ≡ noCell
   pub serviceStart : C .start 2 ≡ vectorOf image
   pub room : C .need 1 + 3 + C .need 2 + C .floor ≤ C .top
-  pub entry : (a : ℕ) → a < 4096 → 1 ≤ C .routine a → EntryFacts C a
+  pub entry : (a : ℕ) → a < romLength → 1 ≤ C .routine a → EntryFacts C a
   -- a row's bound covers its start's worst
-  pub rows : (a : ℕ) → a < 4096 → 2 ≤ C .routine a → C .start (C .routine a) ≡ a → worst C a ≤ C .bound (C .routine a)
+  pub rows : (a : ℕ) → a < romLength → 2 ≤ C .routine a → C .start (C .routine a) ≡ a → worst C a ≤ C .bound (C .routine a)
 
 claim-cell : (C : Certificate) (a x l h : ℕ) → Holds (claimRule C a x l h) → ((x < ramEnd) × (C .class x ≡ C .side (C .routine a)) × (l ≤ h)) ⊎ ((x ≡ noCell) × (l ≤ h))
 unfolding claimRule claimable
@@ -113,7 +114,7 @@ module _ (C : Certificate) (image : List ℕ) (ok : Accepts C image) where
   unfolding rule20
   start-rule n h = ok .r20 .1 .1 .1 .1 .1 .1 .1 .1 .1 .0 n h
 
-  address-rule : (a : ℕ) → a < 4096 → Holds (addressRule C a)
+  address-rule : (a : ℕ) → a < romLength → Holds (addressRule C a)
   unfolding rule20
   address-rule a h = ok .r20 .1 .1 .1 .1 .1 .1 .1 .1 .1 .1 .1 .1 a h
 
@@ -121,7 +122,7 @@ module _ (C : Certificate) (image : List ℕ) (ok : Accepts C image) where
   unfolding startRule
   sides n h u = let z = start-rule n h u in ⊎-elim (λ e. (omega arith, omega arith)) (λ e. (omega arith, omega arith)) (z .1 .1 .1)
 
-  entry-at : (a : ℕ) → a < 4096 → 1 ≤ C .routine a → EntryFacts C a
+  entry-at : (a : ℕ) → a < romLength → 1 ≤ C .routine a → EntryFacts C a
   unfolding addressRule entryRule
   entry-at a h u =
       let p = address-rule a h .1 (λ e. omega arith) in
@@ -164,7 +165,7 @@ module _ (C : Certificate) (image : List ℕ) (ok : Accepts C image) where
       let r : C .routine 0x100 ≡ 1 = ap (C .routine) (sym e) ∙ z .1 .0 in
       ok .rules 0x100 (omega arith) (λ q. omega arith) .r25 .1 .1 .1 .1 .1 refl
 
-  row-rule : (a : ℕ) → a < 4096 → 2 ≤ C .routine a → C .start (C .routine a) ≡ a → worst C a ≤ C .bound (C .routine a)
+  row-rule : (a : ℕ) → a < romLength → 2 ≤ C .routine a → C .start (C .routine a) ≡ a → worst C a ≤ C .bound (C .routine a)
   unfolding rule27 rowRule
   row-rule a h u e = ⊎-elim (λ q. absurd (omega arith)) (λ q. q e) (ok .rules a h (λ q. omega arith) .r27 .1 .1 .1)
 

@@ -13,6 +13,7 @@ use Rattle.base.specs.Choice.{pick}
 use Rattle.base.specs.Formula.{Holds}
 use Rattle.base.specs.Outcome.{Outcome}
 use Rattle.base.specs.Outcome.Outcome.{value, refused}
+use Rattle.base.specs.Lengths.{romLength}
 use Rattle.isa.specs.declared.Instruction.{Instruction}
 use Rattle.alu.specs.Flags.{condition}
 use Rattle.decode.specs.Decode.{decodeAt}
@@ -67,7 +68,7 @@ pub decoded-at : (C : Certificate) (image : List ℕ) (a : ℕ) → RulesHold C 
 unfolding summaryAt
 decoded-at C image a h = decoded-some C a (decodeAt image a) (h .r22)
 
-module _ (C : Certificate) (image : List ℕ) (ok : Accepts C image) (facts : CertificateFacts C) (size : length image ≡ 4096)
+module _ (C : Certificate) (image : List ℕ) (ok : Accepts C image) (facts : CertificateFacts C) (size : length image ≡ romLength)
     (bytes : (i : ℕ) → getD image i 0 < 256) where
   gl : Global C image
   gl = global C image ok

@@ -9,6 +9,7 @@ use lib.Dec.{T, eqb, ltb}
 use lib.ListN.{length, getD}
 use Rattle.base.specs.declared.RomAddr.{RomAddr}
 use Rattle.base.specs.Choice.{pick}
+use Rattle.base.specs.Lengths.{romLength}
 use Rattle.chip.specs.Interrupts.{interruptsEnabled}
 use Rattle.alu.specs.Flags.{condition}
 use Rattle.alu.specs.Operations.{compareFlags}
@@ -97,7 +98,7 @@ module _ (C : Certificate) where
   -- f, opened by a CALL of g; b is the stack address just above f's own bytes
   pub record CallLink (r : List ℕ) (b : ℕ) (f g : Frame) : Type 0 where
     pub back : at r b * 256 + at r (b + 1) ≡ f .returnTo
-    pub inRom : f .returnTo < 4096
+    pub inRom : f .returnTo < romLength
     pub home : C .routine (f .returnTo) ≡ g .routine
     pub used : 1 ≤ g .routine
     pub callee : 3 ≤ f .routine
@@ -112,7 +113,7 @@ module _ (C : Certificate) where
   pub record InterruptLink (r : List ℕ) (b : ℕ) (f g : Frame) : Type 0 where
     pub back : at r (b + 1) * 256 + at r (b + 2) ≡ f .returnTo
     pub flags : at r b % 16 ≡ 0
-    pub inRom : f .returnTo < 4096
+    pub inRom : f .returnTo < romLength
     pub home : C .routine (f .returnTo) ≡ g .routine
     pub used : 1 ≤ g .routine
     pub service : f .routine ≡ 2
@@ -155,7 +156,7 @@ module _ (C : Certificate) where
 
   -- the invariant: f is the innermost open routine, fs the others outward
   pub record Invariant (loaded : Bool) (r : List ℕ) (pc : ℕ) (f : Frame) (fs : List Frame) : Type 0 where
-    pub inRom : pc < 4096
+    pub inRom : pc < romLength
     pub home : C .routine pc ≡ f .routine
     pub used : 1 ≤ C .routine pc
     pub registers : Registers r

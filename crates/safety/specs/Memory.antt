@@ -13,7 +13,7 @@ use lib.Seq.{getD-set-same, getD-set-other}
 use Rattle.base.specs.Choice.{pick, from}
 use Rattle.base.specs.Table.{table-at}
 use Rattle.base.specs.Formula.{of-true, sound, test, eq, _&_, _⇒_, forallBelow}
-use Rattle.chip.specs.Cells.{set-cells}
+use Rattle.base.specs.Cells.{set-cells}
 use Rattle.chip.specs.Registers.{mappedOf, keptBits, keptOf, writtenOf, loadOf, storeOf, among, keptRows, readOnly, testRegister}
 use Rattle.chip.specs.Laws.{load-ram, load-byte, store-length, store-other, store-same, store-ram, store-bytes}
 use Rattle.chip.specs.Interrupts.{interruptsEnabled, setInterruptsOf}

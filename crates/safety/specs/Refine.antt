@@ -7,6 +7,7 @@ use Prim.Native.Nat.{ℕ, _≤_, _<_}
 use native.Mathlib.Omega.{arith}
 use lib.ListN.{length, getD}
 use Rattle.base.specs.declared.RomAddr.{RomAddr}
+use Rattle.base.specs.Lengths.{romLength}
 use Rattle.alu.specs.Operations.{stores}
 use Rattle.action.specs.declared.Operand.the-variants.{Register, Indirect, Immediate}
 use Rattle.action.specs.declared.Action.{Action}
@@ -32,7 +33,7 @@ pub depth-met : (C : Certificate) (loaded : Bool) (r : List ℕ) (pc : ℕ) (f :
 depth-met C true r pc f fs s = omega (arith, s .loaded)
 depth-met C false r pc f fs s = omega (arith, s .unloaded)
 
-module _ (C : Certificate) (image : List ℕ) (gl : Global C image) (size : length image ≡ 4096) (bytes : (i : ℕ) → getD image i 0 < 256)
+module _ (C : Certificate) (image : List ℕ) (gl : Global C image) (size : length image ≡ romLength) (bytes : (i : ℕ) → getD image i 0 < 256)
     (a : ℕ) (e : EntryFacts C a) (r rec : List ℕ) (pre : Before C a r) (input : Input rec) (next : RomAddr)
     (deep : C .depth a ≤ unloaded) where
   -- what is to be shown of an action, by the flow of its summary

@@ -12,6 +12,7 @@ use Rattle.base.specs.declared.RegAddr.{RegAddr}
 use Rattle.base.specs.declared.RomAddr.{RomAddr}
 use Rattle.base.specs.Choice.{pick}
 use Rattle.base.specs.Formula.{Holds, eq, _‖_, decide-false, ltb-yes}
+use Rattle.base.specs.Lengths.{romLength}
 use Rattle.chip.specs.Registers.{storeOf}
 use Rattle.chip.specs.Laws.{load-ram, store-other}
 use Rattle.alu.specs.Laws.{condition-never}
@@ -37,7 +38,7 @@ use Rattle.safety.specs.StepRules.{StepRules}
 abbrev three : List ℕ → ℕ → ℕ → ℕ → ℕ → ℕ → ℕ → List ℕ
 three r x y z u v w = storeOf (storeOf (storeOf r x u) y v) z w
 
-module _ (C : Certificate) (image : List ℕ) (gl : Global C image) (size : length image ≡ 4096) (bytes : (i : ℕ) → getD image i 0 < 256)
+module _ (C : Certificate) (image : List ℕ) (gl : Global C image) (size : length image ≡ romLength) (bytes : (i : ℕ) → getD image i 0 < 256)
     (a : ℕ) (e : EntryFacts C a) (r rec : List ℕ) (pre : Before C a r) (input : Input rec) (next : RomAddr) where
   -- the address in a pair whose high half is claimed
   pair-word : (p : ℕ) → Holds (claimed C a p) → (low C a p * 256 ≤ wordAt r rec p) × (wordAt r rec p ≤ high C a p * 256 + 255)

@@ -8,6 +8,7 @@ use native.Mathlib.Omega.{arith}
 use lib.ListN.{length, getD}
 use Rattle.base.specs.declared.RomAddr.{RomAddr}
 use Rattle.base.specs.Choice.{pick}
+use Rattle.base.specs.Lengths.{romLength}
 use Rattle.chip.specs.Interrupts.{interruptsEnabled, setInterruptsOf}
 use Rattle.chip.specs.InterruptLaws.{set-interrupts-other, set-interrupts-enabled}
 use Rattle.alu.specs.Flags.{carry, condition}
@@ -33,7 +34,7 @@ pick-address : (b : Bool) (to next : RomAddr) → pick b to next .0 ≡ pick b (
 pick-address true to next = refl
 pick-address false to next = refl
 
-module _ (C : Certificate) (image : List ℕ) (gl : Global C image) (size : length image ≡ 4096) (bytes : (i : ℕ) → getD image i 0 < 256)
+module _ (C : Certificate) (image : List ℕ) (gl : Global C image) (size : length image ≡ romLength) (bytes : (i : ℕ) → getD image i 0 < 256)
     (a : ℕ) (e : EntryFacts C a) (r rec : List ℕ) (pre : Before C a r) (input : Input rec) (next : RomAddr) where
   -- nothing is stored to a cell
   nothing : Written C a Write.Nothing r r

@@ -8,6 +8,7 @@ use Prim.Native.Nat.{ℕ, _+_, _%_, _≤_, _<_}
 use native.Mathlib.Omega.{arith}
 use lib.ListN.{length, getD, set}
 use Rattle.base.specs.declared.RomAddr.{RomAddr}
+use Rattle.base.specs.Lengths.{romLength}
 use Rattle.chip.specs.Registers.{mappedOf, loadOf, storeOf}
 use Rattle.chip.specs.Laws.{mapped-ram, store-other}
 use Rattle.action.specs.declared.Operand.{Operand}
@@ -40,7 +41,7 @@ abbrev popping : Operand → Summary
 popping d = moving (writeTo d Unknown) Access.Nothing Access.Nothing Kept Pop
 
 -- deep: rule 25 tells depth 255 from every other, and no depth is greater
-module _ (C : Certificate) (image : List ℕ) (gl : Global C image) (size : length image ≡ 4096) (bytes : (i : ℕ) → getD image i 0 < 256)
+module _ (C : Certificate) (image : List ℕ) (gl : Global C image) (size : length image ≡ romLength) (bytes : (i : ℕ) → getD image i 0 < 256)
     (a : ℕ) (e : EntryFacts C a) (r rec : List ℕ) (pre : Before C a r) (input : Input rec) (next : RomAddr)
     (deep : C .depth a ≤ unloaded) where
   -- the claims hold with another SP

@@ -10,12 +10,13 @@ use lib.ListN.{length, getD, take, drop, length-take, length-drop}
 use lib.Seq.{getD-drop}
 use Rattle.base.specs.Choice.{pick}
 use Rattle.base.specs.Formula.{eqb-yes}
+use Rattle.base.specs.Lengths.{recordLength}
 use Rattle.semantics.specs.declared.State.{State}
 use Rattle.semantics.specs.declared.Ran.{Ran}
-use Rattle.semantics.specs.Step.{recordLength, stepOf}
+use Rattle.semantics.specs.Step.{stepOf}
 use Rattle.semantics.specs.Run.{ran, recordAt, runFrom, runOf}
 use Rattle.certificate.specs.Layout.{Certificate}
-use Rattle.safety.specs.Statement.{Event, Monitored, afterStep, monitorStep, eventOf, StepRight, Walk}
+use Rattle.safety.specs.Statement.{Event, Monitored, actedState, afterStep, monitorStep, eventOf, StepRight, Walk}
 
 -- a part of bytes holds bytes
 pub take-bytes : (n : ℕ) (l : List ℕ) → ((i : ℕ) → getD l i 0 < 256) → (i : ℕ) → getD (take n l) i 0 < 256
@@ -33,13 +34,14 @@ record-length schedule k h = simp (length-take, length-drop) (omega arith)
 
 module _ (C : Certificate) (image : List ℕ) where
   -- the monitored machine is the machine
-  after-state : (n : ℕ) (e : Event) (m : Monitored) (s′ : State) → n ≡ 0 → afterStep C image n e m s′ .state ≡ s′
-  after-state zero e m s′ h = refl
-  after-state (suc n) e m s′ h = absurd (omega arith)
+  after-state : (n : ℕ) (e : Event) (m : Monitored) (a s′ : State) → n ≡ 0 → afterStep C image n e m a s′ .state ≡ s′
+  after-state zero e m a s′ h = refl
+  after-state (suc n) e m a s′ h = absurd (omega arith)
 
   pub step-state : (m : Monitored) (rec : List ℕ) → stepOf image (m .state) rec .stop ≡ 0 → monitorStep C image m rec .state ≡ stepOf image (m .state) rec .state
   unfolding monitorStep
-  step-state m rec h = after-state (stepOf image (m .state) rec .stop) (eventOf image (m .state) rec) m (stepOf image (m .state) rec .state) h
+  step-state m rec h =
+      after-state (stepOf image (m .state) rec .stop) (eventOf image (m .state) rec) m (actedState C image m rec) (stepOf image (m .state) rec .state) h
 
   -- steps and number of a run
   abbrev Done : Ran → ℕ → Type 0

@@ -14,6 +14,7 @@ use Rattle.base.specs.Choice.{pick}
 use Rattle.base.specs.Formula.{Holds, eqb-yes}
 use Rattle.base.specs.Outcome.{Outcome}
 use Rattle.base.specs.Outcome.Outcome.{value, refused}
+use Rattle.base.specs.Lengths.{romLength, recordLength}
 use Rattle.isa.specs.declared.Instruction.{Instruction}
 use Rattle.isa.specs.Map.{cyclesOf}
 use Rattle.chip.specs.Interrupts.{interruptsEnabled, pendingAny, pendingEdge}
@@ -28,13 +29,13 @@ use Rattle.semantics.specs.declared.State.{State}
 use Rattle.semantics.specs.declared.Stepped.{Stepped}
 use Rattle.semantics.specs.Operands.{spCell, symCell, spOf}
 use Rattle.semantics.specs.Execute.{Executed, executeOf}
-use Rattle.semantics.specs.Step.{recordLength, requested, entryDue, entryCost, vectorOf, behind, finishOf, enterOf, afterDecode, instructionStep, waitingStep, modeStep, stepAfterRequests, stepWith, stepOf}
+use Rattle.semantics.specs.Step.{Acted, requested, entryDue, entryCost, vectorOf, behind, movedTo, idleCycles, finishOf, enterOf, afterDecode, instructionAct, waitingAct, modeAct, actAfterRequests, actedOf, settled, stepOf}
 use Rattle.semantics.specs.Run.{recordAt, runOf}
 use Rattle.semantics.specs.Reset.{IsReset}
 use Rattle.certificate.specs.Layout.{Certificate}
 use Rattle.certificate.specs.Summaries.{summaryOf}
 use Rattle.safety.specs.Verdicts.{summaryAt, costAt}
-use Rattle.safety.specs.Statement.{Frame, Open, Event, entered, waited, executed, decodedEvent, modeEvent, dueEvent, eventOf, Monitored, spent, moved, loadedBy, loadsTop, afterStep, monitorStep, EventRight, InstructionRight, Within, StepRight, Walk, Schedule, RunRight, fromReset, Demand3, opening, byReset, byInterrupt}
+use Rattle.safety.specs.Statement.{Frame, Open, Event, entered, waited, executed, decodedEvent, modeEvent, dueEvent, eventOf, Monitored, spent, moved, loadedBy, loadsTop, actedState, afterStep, monitorStep, EventRight, InstructionRight, Within, StepRight, Walk, Schedule, RunRight, fromReset, Demand3, opening, byReset, byInterrupt}
 use Rattle.safety.specs.Invariant.{at, Registers, Awake, Invariant, tableOf}
 use Rattle.safety.specs.Accepted.{Accepts}
 use Rattle.safety.specs.Facts.{Global, global}
@@ -58,7 +59,7 @@ due-enabled r Running h = first-true (interruptsEnabled r) (pendingAny r) h
 due-enabled r Idle h = first-true (interruptsEnabled r) (pendingAny r) h
 due-enabled r Stopped h = first-true (interruptsEnabled r) (pendingEdge r) h
 
-module _ (C : Certificate) (image : List ℕ) (ok : Accepts C image) (facts : CertificateFacts C) (size : length image ≡ 4096)
+module _ (C : Certificate) (image : List ℕ) (ok : Accepts C image) (facts : CertificateFacts C) (size : length image ≡ romLength)
     (bytes : (i : ℕ) → getD image i 0 < 256) where
   whole : Global C image
   whole = global C image ok
@@ -72,24 +73,32 @@ module _ (C : Certificate) (image : List ℕ) (ok : Accepts C image) (facts : Ce
     pub invariant : Invariant C (m .loaded) (m .state .regs) (m .state .pc .0) (m .frames .inner) (m .frames .outer)
     pub awake : Awake (m .state .mode)
 
-  -- a step to x that is the event e
-  record Good (m : Monitored) (rec : List ℕ) (x : Stepped) (e : Event) : Type 0 where
+  -- the act x of a step that is the event e
+  record Good (m : Monitored) (rec : List ℕ) (x : Acted) (e : Event) : Type 0 where
     goes : x .stop ≡ 0
     event : EventRight C image tables m rec e (x .state .pc .0)
     stack : loadedBy C image e (m .loaded) ≡ true → (C .floor ≤ spOf (x .state .regs)) × (spOf (x .state .regs) ≤ C .top)
     within : Within C image (spent C image e (m .state) (m .frames) .inner ∷ spent C image e (m .state) (m .frames) .outer)
-    kept : Kept (afterStep C image 0 e m (x .state))
+    kept : Kept (afterStep C image 0 e m (x .state) (x .state))
+
+  -- a step that is the event e, acts as a and settles in x
+  record Settles (m : Monitored) (a : Acted) (e : Event) (x : Stepped) : Type 0 where
+    goes : x .stop ≡ 0
+    kept : Kept (afterStep C image 0 e m (a .state) (x .state))
+
+  -- what settles behind a good act keeps the invariant
+  good-settled : (m : Monitored) (rec : List ℕ) (a : Acted) (e : Event) → Good m rec a e → Settles m a e (settled (m .state) a)
+  unfolding settled
+  good-settled m rec a e g = record { goes = g .goes; kept = g .kept }
 
   -- what an instruction or an entry leaves where it does not stop
-  abbrev finished : State → Executed → ℕ → Stepped
-  finished s e cost = record {
-    state = record { regs = e .regs; pc = e .next .pc; mode = e .next .mode; cycles = (s .cycles + cost) % 4294967296 };
-    stop = 0;
-  }
+  abbrev finished : State → Executed → Bool → ℕ → Acted
+  finished s e retired cost =
+      record { state = movedTo s (e .regs) (e .next .pc) (e .next .mode) cost; stop = 0; retired = retired; elapsed = cost }
 
-  finish-is : (s : State) (e : Executed) (cost : ℕ) → e .next .stop ≡ 0 → finished s e cost ≡ finishOf s e cost
+  finish-is : (s : State) (e : Executed) (retired : Bool) (cost : ℕ) → e .next .stop ≡ 0 → finished s e retired cost ≡ finishOf s e retired cost
   unfolding finishOf
-  finish-is s e cost h = rw (eqb-yes h)
+  finish-is s e retired cost h = rw (eqb-yes h)
 
   loaded-stack : (b : Bool) (r : List ℕ) (pc : ℕ) (f : Frame) (fs : List Frame) → Invariant C b r pc f fs → b ≡ true
       → (C .floor ≤ at r spCell) × (at r spCell ≤ C .top)
@@ -102,8 +111,8 @@ module _ (C : Certificate) (image : List ℕ) (ok : Accepts C image) (facts : Ce
     requested-kept = inv-request C image whole (m .loaded) (m .state .regs) _ (m .state .pc .0) (m .frames .inner) (m .frames .outer) (k .invariant)
 
     -- waiting
-    good-waiting : Good m rec (waitingStep (m .state) (requested (m .state) rec)) waited
-    good-waiting =
+    good-waiting : (elapsed : ℕ) → Good m rec (waitingAct (m .state) (requested (m .state) rec) elapsed) waited
+    good-waiting elapsed =
         let v = requested-kept in
         record {
           goes = refl;
@@ -124,7 +133,7 @@ module _ (C : Certificate) (image : List ℕ) (ok : Accepts C image) (facts : Ce
         let next = behind (m .state .pc) (d .1) in
         let act = actionOf (d .0) next in
         let e = executeOf act image (requested (m .state) rec) rec next in
-        subst (λ (x : Stepped). Good m rec x (executed act next)) (finish-is (m .state) e (cyclesOf (getD image (m .state .pc .0) 0)) (r .goes))
+        subst (λ (x : Acted). Good m rec x (executed act next)) (finish-is (m .state) e true (cyclesOf (getD image (m .state .pc .0) 0)) (r .goes))
         (record {
           goes = refl;
           event = record {
@@ -135,9 +144,9 @@ module _ (C : Certificate) (image : List ℕ) (ok : Accepts C image) (facts : Ce
           };
           stack =
               loaded-stack (loadsTop (C .top) act || m .loaded) (e .regs) (e .next .pc .0) _ _
-              (r .keeps (finished (m .state) e (cyclesOf (getD image (m .state .pc .0) 0)) .state) refl);
+              (r .keeps (finished (m .state) e true (cyclesOf (getD image (m .state .pc .0) 0)) .state) refl);
           within = r .within;
-          kept = record { invariant = r .keeps (finished (m .state) e (cyclesOf (getD image (m .state .pc .0) 0)) .state) refl; awake = r .awake };
+          kept = record { invariant = r .keeps (finished (m .state) e true (cyclesOf (getD image (m .state .pc .0) 0)) .state) refl; awake = r .awake };
         })
 
   -- main alone, at 0100H, SP not loaded, interrupts off
@@ -182,13 +191,13 @@ module _ (C : Certificate) (image : List ℕ) (ok : Accepts C image) (facts : Ce
 
   -- an interrupt entry
   good-entered : (m : Monitored) (rec : List ℕ) → Kept m → Input rec → interruptsEnabled (requested (m .state) rec) ≡ true
-      → Good m rec (finishOf (m .state) (enterOf image (requested (m .state) rec) (m .state .pc)) entryCost) entered
+      → Good m rec (finishOf (m .state) (enterOf image (requested (m .state) rec) (m .state .pc)) false entryCost) entered
   good-entered m rec k input on =
       let e = enterOf image (requested (m .state) rec) (m .state .pc) in
       let w = inv-enter C image whole facts (m .loaded) (requested (m .state) rec) (m .state .pc) (m .frames .inner) (m .frames .outer) (requested-kept m rec k input) on in
       let i : Invariant C (m .loaded) (e .regs) (e .next .pc .0) (serviceFrame C image whole facts (m .state .pc .0)) (m .frames .inner ∷ m .frames .outer)
       = subst (λ (n : ℕ). Invariant C (m .loaded) (e .regs) n (serviceFrame C image whole facts (m .state .pc .0)) (m .frames .inner ∷ m .frames .outer)) (sym (w .counter)) (w .invariant) in
-      subst (λ (x : Stepped). Good m rec x entered) (finish-is (m .state) e entryCost (w .goes))
+      subst (λ (x : Acted). Good m rec x entered) (finish-is (m .state) e false entryCost (w .goes))
       (record {
         goes = refl;
         event = tt;
@@ -198,8 +207,8 @@ module _ (C : Certificate) (image : List ℕ) (ok : Accepts C image) (facts : Ce
       })
 
   module _ (m : Monitored) (rec : List ℕ) (k : Kept m) (input : Input rec) where
-    good-decoded : Good m rec (instructionStep image (m .state) (requested (m .state) rec) rec) (decodedEvent (decodeAt image (m .state .pc .0)) (m .state .pc))
-    unfolding instructionStep
+    good-decoded : Good m rec (instructionAct image (m .state) (requested (m .state) rec) rec) (decodedEvent (decodeAt image (m .state .pc .0)) (m .state .pc))
+    unfolding instructionAct
     good-decoded =
         let v = k .invariant in
         let u = v .used in
@@ -208,37 +217,36 @@ module _ (C : Certificate) (image : List ℕ) (ok : Accepts C image) (facts : Ce
         subst (λ (o : Outcome (Instruction × ℕ)). Good m rec (afterDecode o image (m .state) (requested (m .state) rec) rec) (decodedEvent o (m .state .pc)))
         (sym (d .1)) (good-right m rec k input (d .0) (d .1) (instruction-right m rec k input (d .0) (d .1)))
 
-    good-mode : (mode : Mode) → Awake mode → Good m rec (modeStep mode image (m .state) (requested (m .state) rec) rec) (modeEvent mode image (m .state .pc))
-    unfolding modeStep
+    good-mode : (mode : Mode) → Awake mode → Good m rec (modeAct mode image (m .state) (requested (m .state) rec) rec) (modeEvent mode image (m .state .pc))
+    unfolding modeAct
     good-mode Running h = good-decoded
-    good-mode Idle h = good-waiting m rec k input
+    good-mode Idle h = good-waiting m rec k input idleCycles
     good-mode Stopped h = absurd h
 
     good-due : (b : Bool) → entryDue (requested (m .state) rec) (m .state .mode) ≡ b
-        → Good m rec (stepAfterRequests b image (m .state) (requested (m .state) rec) rec) (dueEvent b (m .state .mode) image (m .state .pc))
-    unfolding stepAfterRequests
+        → Good m rec (actAfterRequests b image (m .state) (requested (m .state) rec) rec) (dueEvent b (m .state .mode) image (m .state .pc))
+    unfolding actAfterRequests
     good-due true q = good-entered m rec k input (due-enabled (requested (m .state) rec) (m .state .mode) q)
     good-due false q = good-mode (m .state .mode) (k .awake)
 
-    step-is : length rec ≡ recordLength
-        → stepAfterRequests (entryDue (requested (m .state) rec) (m .state .mode)) image (m .state) (requested (m .state) rec) rec ≡ stepOf image (m .state) rec
-    unfolding stepOf stepWith
-    step-is h = rw (size, h)
+    -- the act of the step
+    good-act : Good m rec (actedOf image (m .state) rec) (eventOf image (m .state) rec)
+    unfolding actedOf eventOf
+    good-act = good-due (entryDue (requested (m .state) rec) (m .state .mode)) refl
 
-    good-step : length rec ≡ recordLength → Good m rec (stepOf image (m .state) rec) (eventOf image (m .state) rec)
-    unfolding eventOf
-    good-step h =
-        subst (λ (x : Stepped). Good m rec x (dueEvent (entryDue (requested (m .state) rec) (m .state .mode)) (m .state .mode) image (m .state .pc))) (step-is h)
-        (good-due (entryDue (requested (m .state) rec) (m .state .mode)) refl)
+    good-step : length rec ≡ recordLength → Settles m (actedOf image (m .state) rec) (eventOf image (m .state) rec) (stepOf image (m .state) rec)
+    unfolding stepOf
+    good-step h = rw (size, h) (good-settled m rec (actedOf image (m .state) rec) (eventOf image (m .state) rec) good-act)
 
     step-right : length rec ≡ recordLength → StepRight C image tables m rec
-    step-right h = let g = good-step h in record { goes = g .goes; event = g .event; stack = g .stack; within = g .within }
+    step-right h = let g = good-act in record { goes = good-step h .goes; event = g .event; stack = g .stack; within = g .within }
 
     step-kept : length rec ≡ recordLength → Kept (monitorStep C image m rec)
     unfolding monitorStep
     step-kept h =
         let g = good-step h in
-        subst (λ (n : ℕ). Kept (afterStep C image n (eventOf image (m .state) rec) m (stepOf image (m .state) rec .state))) (sym (g .goes)) (g .kept)
+        subst (λ (n : ℕ). Kept (afterStep C image n (eventOf image (m .state) rec) m (actedState C image m rec) (stepOf image (m .state) rec .state)))
+        (sym (g .goes)) (g .kept)
 
   walk : (k : ℕ) (schedule : List ℕ) → ((i : ℕ) → getD schedule i 0 < 256) → (i : ℕ) → k + i ≤ length schedule / recordLength → (m : Monitored)
       → Kept m → Walk C image k tables schedule i m

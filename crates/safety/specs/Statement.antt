@@ -11,6 +11,7 @@ use lib.ListN.{length, getD}
 use Rattle.base.specs.declared.RomAddr.{RomAddr}
 use Rattle.base.specs.Outcome.{Outcome}
 use Rattle.base.specs.Outcome.Outcome.{value, refused}
+use Rattle.base.specs.Lengths.{recordLength}
 use Rattle.isa.specs.declared.Instruction.{Instruction}
 use Rattle.isa.specs.Map.{cyclesOf}
 use Rattle.decode.specs.Decode.{decodeAt}
@@ -23,7 +24,7 @@ use Rattle.semantics.specs.declared.Mode.the-variants.{Running, Idle, Stopped}
 use Rattle.semantics.specs.declared.State.{State}
 use Rattle.semantics.specs.Operands.{placeOf, lowered, wordAt, spOf, spCell}
 use Rattle.semantics.specs.Execute.{codeAddress}
-use Rattle.semantics.specs.Step.{recordLength, requested, entryDue, entryCost, behind, stepOf}
+use Rattle.semantics.specs.Step.{requested, entryDue, entryCost, behind, actedOf, stepOf}
 use Rattle.semantics.specs.Run.{ran, recordAt, runOf}
 use Rattle.semantics.specs.Reset.{IsReset}
 use Rattle.certificate.specs.Layout.{Certificate}
@@ -185,15 +186,19 @@ module _ (C : Certificate) (image : List ℕ) where
   loadedBy waited b = b
   loadedBy (executed act next) b = loadsTop (C .top) act || b
 
-  -- a step that is not stopped, from s to s′; a stopped step leaves all as it was
-  abbrev pub afterStep : ℕ → Event → Monitored → State → Monitored
-  afterStep zero e m s′ =
-      record { state = s′; frames = moved e s′ (spent e (m .state) (m .frames)); loaded = loadedBy e (m .loaded) }
-  afterStep (suc n) e m s′ = m
+  -- the state behind the act of a step, before it settles: where the step goes, whom CALL opens and SP are read there
+  abbrev pub actedState : Monitored → List ℕ → State
+  actedState m rec = actedOf image (m .state) rec .state
+
+  -- a step that is not stopped, with its act to a, and settled in s′; a stopped step leaves all as it was
+  abbrev pub afterStep : ℕ → Event → Monitored → State → State → Monitored
+  afterStep zero e m a s′ =
+      record { state = s′; frames = moved e a (spent e (m .state) (m .frames)); loaded = loadedBy e (m .loaded) }
+  afterStep (suc n) e m a s′ = m
 
   unfoldable pub monitorStep : Monitored → List ℕ → Monitored
   monitorStep m rec =
-      afterStep (stepOf image (m .state) rec .stop) (eventOf image (m .state) rec) m (stepOf image (m .state) rec .state)
+      afterStep (stepOf image (m .state) rec .stop) (eventOf image (m .state) rec) m (actedState m rec) (stepOf image (m .state) rec .state)
 
   -- What each step must show --
 
@@ -253,10 +258,10 @@ module _ (C : Certificate) (image : List ℕ) where
   -- one step: it does not stop; its event is right; SP, once loaded, lies between floor and top; cycles are within bounds
   pub record StepRight (tables : ℕ → ℕ) (m : Monitored) (rec : List ℕ) : Type 0 where
     pub goes : stepOf image (m .state) rec .stop ≡ 0
-    pub event : EventRight tables m rec (eventOf image (m .state) rec) (stepOf image (m .state) rec .state .pc .0)
+    pub event : EventRight tables m rec (eventOf image (m .state) rec) (actedState m rec .pc .0)
     pub stack :
         loadedBy (eventOf image (m .state) rec) (m .loaded) ≡ true
-        → (C .floor ≤ spOf (stepOf image (m .state) rec .state .regs)) × (spOf (stepOf image (m .state) rec .state .regs) ≤ C .top)
+        → (C .floor ≤ spOf (actedState m rec .regs)) × (spOf (actedState m rec .regs) ≤ C .top)
     pub within :
         Within (spent (eventOf image (m .state) rec) (m .state) (m .frames) .inner ∷ spent (eventOf image (m .state) rec) (m .state) (m .frames) .outer)
 

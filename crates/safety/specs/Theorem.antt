@@ -36,7 +36,7 @@ part-bytes b h i w m k j = go (ltb k m)
 
 compare-byte : (b : List ℕ) → ((i : ℕ) → getD b i 0 < 256) → (a : ℕ) → certificateOf b .compareNumber a < 256
 unfolding certificateOf certificateFrom
-compare-byte b h a = part-bytes b h 0 14 4096 a 13
+compare-byte b h a = part-bytes b h 0 14 romLength a 13
 
 -- an accepted pair has the right lengths, and no rule is broken
 lengths : (b : Bool) (v : Verdict) → pick b v (Refused 7 (romAddr 0)) ≡ Accepted → (b ≡ true) × (v ≡ Accepted)

@@ -10,7 +10,7 @@ use Rattle.base.specs.Choice.{pick}
 use Rattle.base.specs.Outcome.{Outcome}
 use Rattle.base.specs.Outcome.Outcome.{value, refused}
 use Rattle.base.specs.Formula.{Formula, decide}
-use Rattle.base.specs.Lengths.{romLength, certificateLength}
+use Rattle.base.specs.Lengths.{romLength, isImageLength, isCertificateLength}
 use Rattle.isa.specs.declared.Instruction.{Instruction}
 use Rattle.isa.specs.Map.{cyclesOf}
 use Rattle.decode.specs.Decode.{decodeAt}
@@ -81,5 +81,5 @@ verdictOn C image = elim (decide (rule20 C image)) [ true ↦ scan C image romLe
 
 unfoldable pub verdictOf : List ℕ → List ℕ → Verdict
 verdictOf image cert =
-    pick (eqb (length image) romLength && eqb (length cert) certificateLength) (verdictOn (certificateOf cert) image)
+    pick (isImageLength (length image) && isCertificateLength (length cert)) (verdictOn (certificateOf cert) image)
     (Refused 7 (romAddr 0))

@@ -6,10 +6,10 @@ use mathlib.Core.List.{List}
 use lib.ListN.{length, take, drop}
 use lib.Dec.{eqb}
 use Rattle.base.specs.Choice.{pick}
-use Rattle.base.specs.Lengths.{romLength}
+use Rattle.base.specs.Lengths.{isImageLength, recordLength}
 use Rattle.semantics.specs.declared.State.{State}
 use Rattle.semantics.specs.declared.Ran.{Ran}
-use Rattle.semantics.specs.Step.{recordLength, stepOf}
+use Rattle.semantics.specs.Step.{stepOf}
 
 abbrev pub ran : State → ℕ → ℕ → Ran
 ran s steps stop = record { state = s; steps = steps; stop = stop }
@@ -28,6 +28,6 @@ runFrom (suc k) image schedule i s =
 -- 7 for an image of another length, and for a schedule that is not whole records; then nothing is done
 unfoldable pub runOf : List ℕ → State → List ℕ → Ran
 runOf image s schedule =
-    pick (eqb (length image) romLength && eqb (length schedule % recordLength) 0)
+    pick (isImageLength (length image) && eqb (length schedule % recordLength) 0)
     (runFrom (length schedule / recordLength) image schedule 0 s)
     (ran s 0 7)

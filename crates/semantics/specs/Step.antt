@@ -1,4 +1,5 @@
--- One step under a schedule record: requests, then an interrupt entry, or waiting, or one instruction (01, "One step").
+-- One step under a schedule record, in two halves: it acts (requests, then an interrupt entry, or waiting, or one instruction; 01, "One step"),
+-- and then it settles.
 -- Assumes nothing.
 use Prim.Native.Nat.{ℕ, _+_, _*_, _/_, _%_}
 use mathlib.Core.Bool.{Bool, true, false, _&&_}
@@ -10,7 +11,7 @@ use Rattle.base.specs.Addresses.{romAddr}
 use Rattle.base.specs.Choice.{pick}
 use Rattle.base.specs.Outcome.{Outcome}
 use Rattle.base.specs.Outcome.Outcome.{value, refused}
-use Rattle.base.specs.Lengths.{romLength}
+use Rattle.base.specs.Lengths.{isImageLength, recordLength}
 use Rattle.isa.specs.declared.Instruction.{Instruction}
 use Rattle.isa.specs.Map.{cyclesOf}
 use Rattle.decode.specs.Decode.{decodeAt}
@@ -22,10 +23,6 @@ use Rattle.semantics.specs.declared.State.{State}
 use Rattle.semantics.specs.declared.Stepped.{Stepped}
 use Rattle.semantics.specs.Operands.{pushOf, pushAddress, flagsOf}
 use Rattle.semantics.specs.Execute.{Executed, goesOn, executeOf}
-
--- the length of a schedule record
-abbrev pub recordLength : ℕ
-recordLength = 8
 
 -- the requests of byte 0 that act: all five, but in STOP only bits 2 and 3
 unfoldable pub actingRequests : Mode → ℕ → ℕ
@@ -43,15 +40,28 @@ entryDue regs Stopped = interruptsEnabled regs && pendingEdge regs
 abbrev pub refuse : State → ℕ → Stepped
 refuse s n = record { state = s; stop = n }
 
--- the state with what an instruction or an entry leaves, at a cost
-unfoldable pub finishOf : State → Executed → ℕ → Stepped
-finishOf s e cost =
+-- What a step's act leaves: the state and 0, or the state before it and the number of the refusal. Beside it, whether an instruction began and
+-- completed (retired), and the cycles that elapse for the timers: an instruction's or an entry's cost, and what waiting takes.
+pub record Acted : Type 0 where
+  pub state : State
+  pub stop : ℕ
+  pub retired : Bool
+  pub elapsed : ℕ
+
+-- an act that is refused retires no instruction, and no cycle elapses
+abbrev pub refusedAct : State → ℕ → Acted
+refusedAct s n = record { state = s; stop = n; retired = false; elapsed = 0 }
+
+-- where a step from s comes to, at a cost: every state that the machine makes of another is made here
+abbrev pub movedTo : State → List ℕ → RomAddr → Mode → ℕ → State
+movedTo s regs pc mode cost = record { regs = regs; pc = pc; mode = mode; cycles = (s .cycles + cost) % 4294967296 }
+
+-- the act with what an instruction, which retires, or an entry leaves, at a cost
+unfoldable pub finishOf : State → Executed → Bool → ℕ → Acted
+finishOf s e retired cost =
     pick (eqb (e .next .stop) 0)
-    (record {
-      state = record { regs = e .regs; pc = e .next .pc; mode = e .next .mode; cycles = (s .cycles + cost) % 4294967296 };
-      stop = 0;
-    })
-    (refuse s (e .next .stop))
+    (record { state = movedTo s (e .regs) (e .next .pc) (e .next .mode) cost; stop = 0; retired = retired; elapsed = cost })
+    (refusedAct s (e .next .stop))
 
 -- the interrupt vector, and the cycles of an entry
 abbrev pub vectorOf : List ℕ → ℕ
@@ -72,38 +82,46 @@ abbrev pub behind : RomAddr → ℕ → RomAddr
 behind pc n = romAddr ((pc .0 + n) % 65536)
 
 -- the instruction that was decoded at the program counter, on the registers after the requests
-unfoldable pub afterDecode : Outcome (Instruction × ℕ) → List ℕ → State → List ℕ → List ℕ → Stepped
+unfoldable pub afterDecode : Outcome (Instruction × ℕ) → List ℕ → State → List ℕ → List ℕ → Acted
 afterDecode (value d) image s regs rec =
     let next = behind (s .pc) (d .1) in
-    finishOf s (executeOf (actionOf (d .0) next) image regs rec next) (cyclesOf (getD image (s .pc .0) 0))
-afterDecode (refused n) image s regs rec = refuse s n
+    finishOf s (executeOf (actionOf (d .0) next) image regs rec next) true (cyclesOf (getD image (s .pc .0) 0))
+afterDecode (refused n) image s regs rec = refusedAct s n
 
-unfoldable pub instructionStep : List ℕ → State → List ℕ → List ℕ → Stepped
-instructionStep image s regs rec = afterDecode (decodeAt image (s .pc .0)) image s regs rec
+unfoldable pub instructionAct : List ℕ → State → List ℕ → List ℕ → Acted
+instructionAct image s regs rec = afterDecode (decodeAt image (s .pc .0)) image s regs rec
 
--- a waiting step costs nothing and keeps the requests
-abbrev pub waitingStep : State → List ℕ → Stepped
-waitingStep s regs = record { state = record { regs = regs; pc = s .pc; mode = s .mode; cycles = s .cycles }; stop = 0 }
+-- waiting costs nothing and keeps the requests
+abbrev pub waitingAct : State → List ℕ → ℕ → Acted
+waitingAct s regs elapsed = record { state = movedTo s regs (s .pc) (s .mode) 0; stop = 0; retired = false; elapsed = elapsed }
 
--- the step of a machine for which no entry is due
-unfoldable pub modeStep : Mode → List ℕ → State → List ℕ → List ℕ → Stepped
-modeStep Running image s regs rec = instructionStep image s regs rec
-modeStep Idle image s regs rec = waitingStep s regs
-modeStep Stopped image s regs rec = waitingStep s regs
+-- the cycles that elapse in a step that waits in IDLE; in STOP none do
+abbrev pub idleCycles : ℕ
+idleCycles = 4
 
-unfoldable pub stepAfterRequests : Bool → List ℕ → State → List ℕ → List ℕ → Stepped
-stepAfterRequests true image s regs rec = finishOf s (enterOf image regs (s .pc)) entryCost
-stepAfterRequests false image s regs rec = modeStep (s .mode) image s regs rec
+-- the act of a machine for which no entry is due
+unfoldable pub modeAct : Mode → List ℕ → State → List ℕ → List ℕ → Acted
+modeAct Running image s regs rec = instructionAct image s regs rec
+modeAct Idle image s regs rec = waitingAct s regs idleCycles
+modeAct Stopped image s regs rec = waitingAct s regs 0
+
+unfoldable pub actAfterRequests : Bool → List ℕ → State → List ℕ → List ℕ → Acted
+actAfterRequests true image s regs rec = finishOf s (enterOf image regs (s .pc)) false entryCost
+actAfterRequests false image s regs rec = modeAct (s .mode) image s regs rec
 
 -- the registers after the requests of a record
 abbrev pub requested : State → List ℕ → List ℕ
 requested s rec = postOf (s .regs) (actingRequests (s .mode) (getD rec 0 0))
 
--- a step on an image and a record of the right lengths
-unfoldable pub stepWith : List ℕ → State → List ℕ → Stepped
-stepWith image s rec = stepAfterRequests (entryDue (requested s rec) (s .mode)) image s (requested s rec) rec
+-- the first half of a step, its act: what its requests, entry, waiting or instruction do
+unfoldable pub actedOf : List ℕ → State → List ℕ → Acted
+actedOf image s rec = actAfterRequests (entryDue (requested s rec) (s .mode)) image s (requested s rec) rec
+
+-- the second half: what settles behind the act of a step from s. Nothing does
+unfoldable pub settled : State → Acted → Stepped
+settled s a = record { state = a .state; stop = a .stop }
 
 -- one step: 7 for an image or a record of another length
 unfoldable pub stepOf : List ℕ → State → List ℕ → Stepped
 stepOf image s rec =
-    pick (eqb (length image) romLength && eqb (length rec) recordLength) (stepWith image s rec) (refuse s 7)
+    pick (isImageLength (length image) && eqb (length rec) recordLength) (settled s (actedOf image s rec)) (refuse s 7)

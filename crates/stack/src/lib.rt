@@ -6,6 +6,7 @@ ghost use Rattle.semantics.specs.Execute.{pushOperand, popOperand, callOf, call
 use action::Operand;
 use base::RegAddr;
 use base::RomAddr;
+use chip::Inputs;
 use semantics::Next;
 
 // SP is lowered by one.
@@ -54,7 +55,7 @@ pub fn push_address(regs: &mut [u8; 256], a: RomAddr) -> bool
 }
 
 // PUSH: SP is lowered, then the operand is read.
-pub fn push_operand(s: Operand, regs: &mut [u8; 256], rec: &[u8; 8], pc: RomAddr) -> Next
+pub fn push_operand(s: Operand, regs: &mut [u8; 256], rec: &Inputs, pc: RomAddr) -> Next
     ensures regs { λ _. ⌜ now (regs .exit) ≡ pushOperand s (now (regs .entry)) (now (rec .entry)) pc .regs ⌝ }
     ensures next { λ r. ⌜ r ≡ pushOperand s (now (regs .entry)) (now (rec .entry)) pc .next ⌝ }
 {
@@ -65,7 +66,7 @@ pub fn push_operand(s: Operand, regs: &mut [u8; 256], rec: &[u8; 8], pc: RomAddr
 }
 
 // POP: the byte where SP points is stored, then SP is raised.
-pub fn pop_operand(d: Operand, regs: &mut [u8; 256], rec: &[u8; 8], pc: RomAddr) -> Next
+pub fn pop_operand(d: Operand, regs: &mut [u8; 256], rec: &Inputs, pc: RomAddr) -> Next
     ensures regs { λ _. ⌜ now (regs .exit) ≡ popOperand d (now (regs .entry)) (now (rec .entry)) pc .regs ⌝ }
     ensures next { λ r. ⌜ r ≡ popOperand d (now (regs .entry)) (now (rec .entry)) pc .next ⌝ }
 {
@@ -87,7 +88,7 @@ pub fn call(to: RomAddr, regs: &mut [u8; 256], pc: RomAddr) -> Next
 }
 
 // CALL through a pair, which is read after the pushes.
-pub fn call_pair(p: RegAddr, regs: &mut [u8; 256], rec: &[u8; 8], pc: RomAddr) -> Next
+pub fn call_pair(p: RegAddr, regs: &mut [u8; 256], rec: &Inputs, pc: RomAddr) -> Next
     ensures regs { λ _. ⌜ now (regs .exit) ≡ callPairOf p (now (regs .entry)) (now (rec .entry)) pc .regs ⌝ }
     ensures next { λ r. ⌜ r ≡ callPairOf p (now (regs .entry)) (now (rec .entry)) pc .next ⌝ }
 {
@@ -99,7 +100,7 @@ pub fn call_pair(p: RegAddr, regs: &mut [u8; 256], rec: &[u8; 8], pc: RomAddr) -
 }
 
 // RET.
-pub fn return_from_call(regs: &mut [u8; 256], rec: &[u8; 8]) -> Next
+pub fn return_from_call(regs: &mut [u8; 256], rec: &Inputs) -> Next
     ensures regs { λ _. ⌜ now (regs .exit) ≡ returnOf (now (regs .entry)) (now (rec .entry)) .regs ⌝ }
     ensures next { λ r. ⌜ r ≡ returnOf (now (regs .entry)) (now (rec .entry)) .next ⌝ }
 {
@@ -110,7 +111,7 @@ pub fn return_from_call(regs: &mut [u8; 256], rec: &[u8; 8]) -> Next
 }
 
 // IRET: FLAGS from the stack, then as RET; SYM.2 becomes 1.
-pub fn interrupt_return(regs: &mut [u8; 256], rec: &[u8; 8]) -> Next
+pub fn interrupt_return(regs: &mut [u8; 256], rec: &Inputs) -> Next
     ensures regs { λ _. ⌜ now (regs .exit) ≡ interruptReturnOf (now (regs .entry)) (now (rec .entry)) .regs ⌝ }
     ensures next { λ r. ⌜ r ≡ interruptReturnOf (now (regs .entry)) (now (rec .entry)) .next ⌝ }
 {

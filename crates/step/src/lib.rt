@@ -1,19 +1,22 @@
-// One step under a schedule record, with its registers in place. The crate `machine` makes steps of whole states and runs of it.
+// One step under a schedule record, with its registers in place, in two halves: it acts, and then it settles. The crate `machine` makes steps of
+// whole states and runs of it.
 ghost use mathlib.Core.Path.{_≡_};
 ghost use mathlib.Core.List.{List};
 ghost use Prim.Native.Nat.{ℕ};
 ghost use Rattle.isa.specs.Answer.{decoded};
 ghost use Rattle.base.specs.Choice.{pick};
-ghost use Rattle.semantics.specs.Step.{afterDecode, instructionStep, modeStep, stepAfterRequests, stepWith};
-ghost use Rattle.entry.specs.InPlace.{stateWith, rebuilt, stepped};
+ghost use Rattle.semantics.specs.declared.State.{State};
+ghost use Rattle.semantics.specs.Step.{afterDecode, instructionAct, modeAct, actAfterRequests, actedOf, settled};
+ghost use Rattle.entry.specs.InPlace.{stateWith, acted, rebuilt, stepped};
 use base::RomAddr;
+use chip::Inputs;
 use entry::Core;
 use entry::Ended;
 use isa::Decoded;
 use semantics::Mode;
 
 // The instruction that was decoded, on the registers after the requests.
-fn after_decode(d: Decoded, image: &[u8], s: Core, regs: &mut [u8; 256], rec: &[u8; 8]) -> Ended
+fn after_decode(d: Decoded, image: &[u8], s: Core, regs: &mut [u8; 256], rec: &Inputs) -> Ended
     ensures { λ r. ⌜ ((saved : List ℕ) → rebuilt saved (now (regs .exit)) r ≡ afterDecode (decoded d) (now (image .entry)) (stateWith saved s) (now (regs .entry)) (now (rec .entry))) ⌝ }
 {
     match d {
@@ -22,7 +25,7 @@ fn after_decode(d: Decoded, image: &[u8], s: Core, regs: &mut [u8; 256], rec: &[
             let behind = RomAddr(std::num::wrapping_add_u16(pc.0, n as u16));
             let next = execute::execute(action::action_of(i, behind), image, regs, rec, behind);
             let first = base::byte_at(image, pc.0 as usize);
-            entry::finish(s, next, opcode_words::cycles(first))
+            entry::finish(s, next, true, opcode_words::cycles(first))
         }
         Decoded::CutOff => entry::refuse(s, 10),
         Decoded::Undefined => entry::refuse(s, 11),
@@ -31,33 +34,36 @@ fn after_decode(d: Decoded, image: &[u8], s: Core, regs: &mut [u8; 256], rec: &[
 }
 
 // One instruction.
-fn instruction(image: &[u8], s: Core, regs: &mut [u8; 256], rec: &[u8; 8]) -> Ended
-    ensures { λ r. ⌜ ((saved : List ℕ) → rebuilt saved (now (regs .exit)) r ≡ instructionStep (now (image .entry)) (stateWith saved s) (now (regs .entry)) (now (rec .entry))) ⌝ }
+fn instruction(image: &[u8], s: Core, regs: &mut [u8; 256], rec: &Inputs) -> Ended
+    ensures { λ r. ⌜ ((saved : List ℕ) → rebuilt saved (now (regs .exit)) r ≡ instructionAct (now (image .entry)) (stateWith saved s) (now (regs .entry)) (now (rec .entry))) ⌝ }
 {
     let pc = s.pc;
     after_decode(decode::decode(image, pc.0 as usize), image, s, regs, rec)
 }
 
-// The step of a machine for which no entry is due.
-fn mode_step(mode: Mode, image: &[u8], s: Core, regs: &mut [u8; 256], rec: &[u8; 8]) -> Ended
-    ensures { λ r. ⌜ ((saved : List ℕ) → rebuilt saved (now (regs .exit)) r ≡ modeStep mode (now (image .entry)) (stateWith saved s) (now (regs .entry)) (now (rec .entry))) ⌝ }
+// The cycles that elapse in a step that waits in IDLE.
+const IDLE_CYCLES: u8 = 4;
+
+// The act of a machine for which no entry is due.
+fn mode_act(mode: Mode, image: &[u8], s: Core, regs: &mut [u8; 256], rec: &Inputs) -> Ended
+    ensures { λ r. ⌜ ((saved : List ℕ) → rebuilt saved (now (regs .exit)) r ≡ modeAct mode (now (image .entry)) (stateWith saved s) (now (regs .entry)) (now (rec .entry))) ⌝ }
 {
     match mode {
         Mode::Running => instruction(image, s, regs, rec),
-        Mode::Idle => entry::wait(s),
-        Mode::Stopped => entry::wait(s),
+        Mode::Idle => entry::wait(s, IDLE_CYCLES),
+        Mode::Stopped => entry::wait(s, 0),
     }
 }
 
 // What follows the requests.
-fn after_requests(due: bool, image: &[u8], s: Core, regs: &mut [u8; 256], rec: &[u8; 8]) -> Ended
-    ensures { λ r. ⌜ ((saved : List ℕ) → rebuilt saved (now (regs .exit)) r ≡ stepAfterRequests due (now (image .entry)) (stateWith saved s) (now (regs .entry)) (now (rec .entry))) ⌝ }
+fn after_requests(due: bool, image: &[u8], s: Core, regs: &mut [u8; 256], rec: &Inputs) -> Ended
+    ensures { λ r. ⌜ ((saved : List ℕ) → rebuilt saved (now (regs .exit)) r ≡ actAfterRequests due (now (image .entry)) (stateWith saved s) (now (regs .entry)) (now (rec .entry))) ⌝ }
 {
     if due {
         return entry::enter(image, s, regs);
     }
     let mode = s.mode;
-    mode_step(mode, image, s, regs, rec)
+    mode_act(mode, image, s, regs, rec)
 }
 
 // Puts the registers back where a step stopped.
@@ -70,9 +76,9 @@ fn put_back(regs: &mut [u8; 256], before: [u8; 256], done: bool)
     *regs = before;
 }
 
-// A step with its registers in place.
-pub fn step_in_place(image: &[u8], s: Core, regs: &mut [u8; 256], rec: &[u8; 8]) -> Ended
-    ensures { λ r. ⌜ stepped (now (regs .exit)) r ≡ stepWith (now (image .entry)) (stateWith (now (regs .entry)) s) (now (rec .entry)) ⌝ }
+// The first half: what the requests, the entry, waiting or the instruction do.
+fn act(image: &[u8], s: Core, regs: &mut [u8; 256], rec: &Inputs) -> Ended
+    ensures { λ r. ⌜ acted (now (regs .exit)) r ≡ actedOf (now (image .entry)) (stateWith (now (regs .entry)) s) (now (rec .entry)) ⌝ }
 {
     let before = *regs;
     let mode = s.mode;
@@ -82,4 +88,23 @@ pub fn step_in_place(image: &[u8], s: Core, regs: &mut [u8; 256], rec: &[u8; 8])
     let r = after_requests(due, image, s, regs, rec);
     put_back(regs, before, r.stop == 0);
     r
+}
+
+// The second half: nothing settles.
+fn settle(regs: &mut [u8; 256], a: Ended) -> Ended
+    ensures step { λ r. ⌜ ((s : State) → stepped (now (regs .exit)) r ≡ settled s (acted (now (regs .entry)) a)) ⌝ }
+    ensures retired { λ r. ⌜ r .retired ≡ a .retired ⌝ }
+    ensures elapsed { λ r. ⌜ r .elapsed ≡ a .elapsed ⌝ }
+{
+    a
+}
+
+// A step with its registers in place. It also tells whether an instruction began and completed, and the cycles that elapse for the timers.
+pub fn step_in_place(image: &[u8], s: Core, regs: &mut [u8; 256], rec: &Inputs) -> Ended
+    ensures step { λ r. ⌜ stepped (now (regs .exit)) r ≡ settled (stateWith (now (regs .entry)) s) (actedOf (now (image .entry)) (stateWith (now (regs .entry)) s) (now (rec .entry))) ⌝ }
+    ensures retired { λ r. ⌜ r .retired ≡ actedOf (now (image .entry)) (stateWith (now (regs .entry)) s) (now (rec .entry)) .retired ⌝ }
+    ensures elapsed { λ r. ⌜ r .elapsed ≡ actedOf (now (image .entry)) (stateWith (now (regs .entry)) s) (now (rec .entry)) .elapsed ⌝ }
+{
+    let a = act(image, s, regs, rec);
+    settle(regs, a)
 }

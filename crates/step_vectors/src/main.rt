@@ -1,12 +1,51 @@
-// Compares `machine::step` with the cases of the file `steps.bin`. A case is 545 bytes, numbers high byte first. Given: ROM bytes 0000H and 0001H,
-// 8 ROM bytes at the program counter, program counter 2, mode 1, cycle total 4, 256 registers, record 8. Expected: number 1, program counter 2,
-// mode 1, cycle total 4, 256 registers. The rest of ROM is FFH.
+// Compares `machine::step` with the cases of the file `steps.bin`. Numbers are high byte first. ROM is FFH where a case gives no byte.
+ghost use Prim.Native.Nat.{_+_, _≤_};
+use base::IMAGE_LENGTH;
+use base::RECORD_LENGTH;
 use base::RomAddr;
 use libc::STDOUT_FILENO;
 use semantics::Mode;
 use semantics::State;
 
-const CASE: usize = 545;
+// Where the fields of a state begin.
+const PC: usize = 0;
+
+const MODE: usize = 2;
+
+const CYCLES: usize = 3;
+
+const DIVIDER: usize = 7;
+
+const REGISTERS: usize = 9;
+
+const STATE_LENGTH: usize = REGISTERS + 256;
+
+// Where the parts of a case begin. The vector is ROM bytes 0000H and 0001H; the window, those at the program counter, wins over it.
+const PROFILE: usize = 0;
+
+const ENTRY_COST: usize = 1;
+
+const VECTOR: usize = 2;
+
+const WINDOW: usize = 4;
+
+const WINDOW_LENGTH: usize = 8;
+
+const GIVEN: usize = WINDOW + WINDOW_LENGTH;
+
+const RECORD: usize = GIVEN + STATE_LENGTH;
+
+const NUMBER: usize = RECORD + RECORD_LENGTH;
+
+const EXPECTED: usize = NUMBER + 1;
+
+const CASE_LENGTH: usize = EXPECTED + STATE_LENGTH;
+
+// In a contract 551 stands for CASE_LENGTH, and 265 for STATE_LENGTH.
+type Case = [u8; CASE_LENGTH];
+
+// How many differences are printed.
+const PRINTED: u64 = 5;
 
 // The numbers of cases that were compared, and that differ.
 struct Count {
@@ -31,51 +70,53 @@ fn mode_number(mode: Mode) -> u8 {
     }
 }
 
-// Four bytes as a number.
-fn long(a: u8, b: u8, c: u8, d: u8) -> u32 {
-    (operands::word(a, b) as u32) * 65536 + (operands::word(c, d) as u32)
+// Two bytes of a case as a number.
+fn word_at(case: &Case, at: usize) -> u16
+    requires { ⌜ at + 2 ≤ 551 ⌝ }
+{
+    operands::word(case[at], case[at + 1])
 }
 
-// A ROM byte; past the end it is dropped.
-fn put(image: &mut [u8; 4096], at: usize, v: u8) {
-    if at < 4096 {
-        image[at] = v;
-    }
+// Four bytes of a case as a number.
+fn long_at(case: &Case, at: usize) -> u32
+    requires { ⌜ at + 4 ≤ 551 ⌝ }
+{
+    (word_at(case, at) as u32) * 65536 + (word_at(case, at + 2) as u32)
 }
 
-// The image of a case.
-fn image_of(case: &[u8; 545]) -> [u8; 4096] {
-    let mut image = [255u8; 4096];
-    image[0] = case[0];
-    image[1] = case[1];
-    let pc = operands::word(case[10], case[11]) as usize;
-    put(&mut image, pc, case[2]);
-    put(&mut image, pc + 1, case[3]);
-    put(&mut image, pc + 2, case[4]);
-    put(&mut image, pc + 3, case[5]);
-    put(&mut image, pc + 4, case[6]);
-    put(&mut image, pc + 5, case[7]);
-    put(&mut image, pc + 6, case[8]);
-    put(&mut image, pc + 7, case[9]);
-    image
-}
-
-// The registers that a case gives.
-fn registers_of(case: &[u8; 545]) -> [u8; 256] {
+// The registers of the state that begins at an offset.
+fn registers_at(case: &Case, at: usize) -> [u8; 256]
+    requires { ⌜ at + 265 ≤ 551 ⌝ }
+{
     let mut regs = [0u8; 256];
     let mut i = 0;
     while i < 256 {
-        regs[i] = case[i + 17];
+        regs[i] = case[at + REGISTERS + i];
         i += 1;
     }
     regs
 }
 
-// Whether the registers are those that a case expects.
-fn same_registers(regs: &[u8; 256], case: &[u8; 545]) -> bool {
+// The state that begins at an offset.
+fn state_at(case: &Case, at: usize) -> State
+    requires { ⌜ at + 265 ≤ 551 ⌝ }
+{
+    let regs = registers_at(case, at);
+    State {
+        regs: regs,
+        pc: RomAddr(word_at(case, at + PC)),
+        mode: mode_of(case[at + MODE]),
+        cycles: long_at(case, at + CYCLES),
+    }
+}
+
+// Whether the registers are those of the state that begins at an offset.
+fn same_registers(regs: &[u8; 256], case: &Case, at: usize) -> bool
+    requires { ⌜ at + 265 ≤ 551 ⌝ }
+{
     let mut i = 0;
     while i < 256 {
-        if regs[i] != case[i + 289] {
+        if regs[i] != case[at + REGISTERS + i] {
             return false;
         }
         i += 1;
@@ -83,40 +124,60 @@ fn same_registers(regs: &[u8; 256], case: &[u8; 545]) -> bool {
     true
 }
 
-// The state that a case gives.
-fn state_of(case: &[u8; 545]) -> State {
-    let regs = registers_of(case);
-    State {
-        regs: regs,
-        pc: RomAddr(operands::word(case[10], case[11])),
-        mode: mode_of(case[12]),
-        cycles: long(case[13], case[14], case[15], case[16]),
+// Whether a state is the one that begins at an offset.
+fn same_state(state: State, case: &Case, at: usize) -> bool
+    requires { ⌜ at + 265 ≤ 551 ⌝ }
+{
+    let pc = state.pc;
+    let mode = state.mode;
+    let regs = state.regs;
+    (pc.0 == word_at(case, at + PC))
+        & (mode_number(mode) == case[at + MODE])
+        & (state.cycles == long_at(case, at + CYCLES))
+        & same_registers(&regs, case, at)
+}
+
+// A ROM byte; past the end it is dropped.
+fn put(image: &mut [u8; IMAGE_LENGTH], at: usize, v: u8) {
+    if at < IMAGE_LENGTH {
+        image[at] = v;
     }
 }
 
+// Puts the window of a case at its program counter.
+fn put_window(image: &mut [u8; IMAGE_LENGTH], case: &Case) {
+    let pc = word_at(case, GIVEN + PC) as usize;
+    let mut i = 0;
+    while i < WINDOW_LENGTH {
+        put(image, pc + i, case[WINDOW + i]);
+        i += 1;
+    }
+}
+
+// The image of a case.
+fn image_of(case: &Case) -> [u8; IMAGE_LENGTH] {
+    let mut image = [255u8; IMAGE_LENGTH];
+    image[0] = case[VECTOR];
+    image[1] = case[VECTOR + 1];
+    put_window(&mut image, case);
+    image
+}
+
+// Whether a case has 0 for all that the machine does not have yet: profile, entry cost and divider.
+fn is_supported(case: &Case) -> bool {
+    (case[PROFILE] == 0)
+        & (case[ENTRY_COST] == 0)
+        & (word_at(case, GIVEN + DIVIDER) == 0)
+        & (word_at(case, EXPECTED + DIVIDER) == 0)
+}
+
 // Whether the step of a case leaves what the case expects.
-fn agrees(case: &[u8; 545]) -> bool {
+fn agrees(case: &Case) -> bool {
     let image = image_of(case);
-    let rec = [
-        case[273],
-        case[274],
-        case[275],
-        case[276],
-        case[277],
-        case[278],
-        case[279],
-        case[280],
-    ];
-    let r = machine::step(&image, state_of(case), &rec);
-    let s = r.state;
-    let pc = s.pc;
-    let mode = s.mode;
-    let regs = s.regs;
-    (r.stop == case[281])
-        & (pc.0 == operands::word(case[282], case[283]))
-        & (mode_number(mode) == case[284])
-        & (s.cycles == long(case[285], case[286], case[287], case[288]))
-        & same_registers(&regs, case)
+    let bytes = &case[..];
+    let r = machine::step(&image, state_at(case, GIVEN), &bytes[RECORD..NUMBER]);
+    let state = r.state;
+    is_supported(case) & (r.stop == case[NUMBER]) & same_state(state, case, EXPECTED)
 }
 
 fn wide(x: u8) -> u64 {
@@ -124,40 +185,32 @@ fn wide(x: u8) -> u64 {
 }
 
 // Tells of a case that differs.
-fn tell(number: u64, case: &[u8; 545]) {
+fn tell(number: u64, case: &Case) {
     io::write_all(STDOUT_FILENO, b"case ");
     io::print_decimal(STDOUT_FILENO, number);
     io::write_all(STDOUT_FILENO, b" differs, first byte ");
-    io::print_hex(STDOUT_FILENO, wide(case[2]), 2);
+    io::print_hex(STDOUT_FILENO, wide(case[WINDOW]), 2);
     io::write_all(STDOUT_FILENO, b"\n");
 }
 
-// The next case of the file, if there is one.
+// The next case of the file, if there is one; one that is cut off differs.
 fn next_case(fd: i32, count: Count) -> Count {
-    let mut case = [0u8; CASE];
+    let mut case = [0u8; CASE_LENGTH];
     let n = io::read_full(fd, &mut case);
-    if n < CASE {
-        return Count {
-            compared: count.compared,
-            differ: count.differ,
-            more: false,
-        };
+    let mut next = count;
+    if n == 0 {
+        next.more = false;
+        return next;
     }
-    if agrees(&case) {
-        return Count {
-            compared: std::num::wrapping_add_u64(count.compared, 1),
-            differ: count.differ,
-            more: true,
-        };
+    next.compared = std::num::wrapping_add_u64(count.compared, 1);
+    if (n == CASE_LENGTH) & agrees(&case) {
+        return next;
     }
-    if count.differ < 5 {
+    if count.differ < PRINTED {
         tell(count.compared, &case);
     }
-    Count {
-        compared: std::num::wrapping_add_u64(count.compared, 1),
-        differ: std::num::wrapping_add_u64(count.differ, 1),
-        more: true,
-    }
+    next.differ = std::num::wrapping_add_u64(count.differ, 1);
+    next
 }
 
 // All cases; the number of turns is one that no run uses up.

@@ -2,7 +2,7 @@
 -- Assumes nothing.
 use mathlib.Core.Bool.{false}
 use mathlib.Core.Path.{sym}
-use Rattle.base.specs.Choice.{choose-miss}
+use Rattle.base.specs.ChoiceLaws.{choose-miss}
 use Rattle.alu.specs.Flags.{conditions, conditionOn}
 use Rattle.alu.proofs.condition_on.Statement.{statement}
 use Rattle.alu.proofs.condition_on.Tie as tie

@@ -1,6 +1,7 @@
 use Rattle.safety.specs.Verdicts.{scan}
 use Rattle.checker.proofs.Laws.{scan-on, scan-stop}
 use Rattle.certificate.specs.Layout.{certificateOf}
+use Rattle.base.specs.Lengths.{romLength}
 use Prim.Native.Nat.{ℕ, _-_, _≤_}
 use borrow.Author.Needs.{needs}
 use native.Mathlib.Omega.{arith}
@@ -9,10 +10,10 @@ use Rattle.checker.proofs.first_refusal.Statement.{statement}
 use Rattle.checker.proofs.first_refusal.Tie as tie
 
 abbrev Inv-loop : tie.InvT-loop
-Inv-loop image cert a₀ a = (a ≤ 4096) × (scan (certificateOf cert) image 4096 0 ≡ scan (certificateOf cert) image (4096 - a) a)
+Inv-loop image cert a₀ a = (a ≤ romLength) × (scan (certificateOf cert) image romLength 0 ≡ scan (certificateOf cert) image (romLength - a) a)
 
 abbrev μ-loop : tie.MeasureT-loop
-μ-loop image cert a₀ a = 4096 - a
+μ-loop image cert a₀ a = romLength - a
 
 loop-holds : tie.Need-loop-holds Inv-loop μ-loop
 loop-holds c = (omega arith, refl)
@@ -50,7 +51,7 @@ returns-2 c =
     let C = certificateOf (g .cert .now) in
     let image = g .image .now in
     let o = c .before .loop in
-    let z : 4096 - o .a ≡ 0 = omega arith in
+    let z : romLength - o .a ≡ 0 = omega arith in
     sym (o .inv .1 ∙ ap (λ (n : ℕ). scan C image n (o .a)) z)
 
 pub first-refusal-spec : {M : Type 1} → statement M

@@ -1,6 +1,6 @@
 -- `chip::kept_word` meets its contract.
 -- Assumes nothing.
-use Rattle.base.specs.Choice.{choose-miss}
+use Rattle.base.specs.ChoiceLaws.{choose-miss}
 use Rattle.chip.proofs.kept_word.Statement.{statement}
 use Rattle.chip.proofs.kept_word.Tie as tie
 

@@ -1,7 +1,7 @@
 -- `chip::load` meets its contract.
 -- Assumes nothing.
 use borrow.Author.Tests.{lt-ltb, le-ltb}
-use Rattle.base.specs.Choice.{choose-miss}
+use Rattle.base.specs.ChoiceLaws.{choose-miss}
 use Rattle.chip.specs.Registers.{loadOf}
 use borrow.Author.Needs.{needs}
 use Rattle.chip.proofs.load.Statement.{statement}

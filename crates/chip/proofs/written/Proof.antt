@@ -1,6 +1,6 @@
 -- `chip::written` meets its contract.
 -- Assumes nothing.
-use Rattle.base.specs.Choice.{choose-miss}
+use Rattle.base.specs.ChoiceLaws.{choose-miss}
 use Rattle.chip.specs.Registers.{writtenOf}
 use borrow.Author.Needs.{needs}
 use Rattle.chip.proofs.written.Statement.{statement}

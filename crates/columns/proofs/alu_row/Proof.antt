@@ -1,7 +1,7 @@
 use Rattle.isa.specs.declared.AluRow.{AluRow}
 use Rattle.isa.specs.Map.{aluRows}
 use mathlib.Core.Path.{sym}
-use Rattle.base.specs.Choice.{choose-miss}
+use Rattle.base.specs.ChoiceLaws.{choose-miss}
 use Rattle.columns.proofs.alu_row.Statement.{statement}
 use Rattle.columns.proofs.alu_row.Tie as tie
 

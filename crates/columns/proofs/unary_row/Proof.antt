@@ -1,7 +1,7 @@
 use Rattle.isa.specs.declared.UnaryRow.{UnaryRow}
 use Rattle.isa.specs.Map.{unaryRows}
 use mathlib.Core.Path.{sym}
-use Rattle.base.specs.Choice.{choose-miss}
+use Rattle.base.specs.ChoiceLaws.{choose-miss}
 use Rattle.columns.proofs.unary_row.Statement.{statement}
 use Rattle.columns.proofs.unary_row.Tie as tie
 

@@ -2,7 +2,7 @@ use Rattle.columns.specs.Form.{formOf}
 use Rattle.isa.specs.Map.Cell.{empty}
 use Rattle.isa.specs.Map.{Cell, column7Rows}
 use mathlib.Core.Path.{ap, sym}
-use Rattle.base.specs.Choice.{choose-miss}
+use Rattle.base.specs.ChoiceLaws.{choose-miss}
 use borrow.Author.Needs.{needs}
 use Rattle.decode.proofs.column_7.Statement.{statement}
 use Rattle.decode.proofs.column_7.Tie as tie

@@ -1,7 +1,7 @@
 use Rattle.isa.specs.Map.Cell.{empty}
 use Rattle.isa.specs.Map.{columnFRows}
 use mathlib.Core.Path.{sym}
-use Rattle.base.specs.Choice.{choose-miss}
+use Rattle.base.specs.ChoiceLaws.{choose-miss}
 use Rattle.decode.proofs.implied_row.Statement.{statement}
 use Rattle.decode.proofs.implied_row.Tie as tie
 

@@ -2,7 +2,7 @@ use Rattle.columns.specs.Form.{formOf}
 use Rattle.isa.specs.Map.Cell.{incWork}
 use Rattle.isa.specs.Map.{Cell, rowColumns}
 use mathlib.Core.Path.{ap, sym}
-use Rattle.base.specs.Choice.{choose-miss}
+use Rattle.base.specs.ChoiceLaws.{choose-miss}
 use borrow.Author.Needs.{needs}
 use Rattle.decode.proofs.row_column.Statement.{statement}
 use Rattle.decode.proofs.row_column.Tie as tie

@@ -4,12 +4,12 @@ use borrow.Author.Needs.{needs}
 use Rattle.entry.proofs.finish.Statement.{statement}
 use Rattle.entry.proofs.finish.Tie as tie
 
-wrapping-add-u32-requires : tie.Need-wrapping-add-u32-requires
-wrapping-add-u32-requires c κs = search needs
+core-after-requires : tie.Need-core-after-requires
+core-after-requires c κs = search needs
 
 returns : tie.Need-returns
 unfolding finished
-returns c = simp (c .wrapping-add-u32 .ensures, eq-eqb _ _ (c .before .before .if1 .taken))
+returns c = simp (c .core-after .ensures, eq-eqb _ _ (c .before .before .if1 .taken))
 
 refuse-requires : tie.Need-refuse-requires
 refuse-requires c κs = search needs
@@ -19,4 +19,4 @@ unfolding finished
 returns-2 c = simp (c .refuse .ensures, ne-eqb _ _ (c .before .if1 .left))
 
 pub finish-spec : {M : Type 1} → statement M
-finish-spec = tie.close (tie.spec wrapping-add-u32-requires returns refuse-requires returns-2)
+finish-spec = tie.close (tie.spec core-after-requires returns refuse-requires returns-2)

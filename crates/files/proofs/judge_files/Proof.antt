@@ -2,6 +2,7 @@
 -- Assumes nothing.
 use mathlib.Core.Path.{_≡_, _∙_}
 use lib.ListN.{length}
+use Rattle.base.specs.Lengths.{certificateLength}
 use Rattle.files.specs.ReadingLaws.{length-filled, judges}
 use borrow.Author.Needs.{needs}
 use Rattle.files.proofs.judge_files.Statement.{statement}
@@ -45,7 +46,7 @@ same-length c = search needs
 
 returns : tie.Need-returns
 returns c = let w = c .before .before .write-judgement .ensures in
-    let blank : length (c .before .before .before .before .before .before .before .before .before .before .before .before .before .before .blank-certificate .result) ≡ 58498 = rw (c .before .before .before .before .before .before .before .before .before .before .before .before .before .before .blank-certificate .ensures) (length-filled 58498 0) in
+    let blank : length (c .before .before .before .before .before .before .before .before .before .before .before .before .before .before .blank-certificate .result) ≡ certificateLength = rw (c .before .before .before .before .before .before .before .before .before .before .before .before .before .before .blank-certificate .ensures) (length-filled certificateLength 0) in
     judges (rw (c .before .before .before .before .before .before .before .before .before .before .before .before .before .before .before .blank-image .ensures) at (c .before .before .before .before .before .before .before .before .before .before .before .before .read-file .ensures))
     (rw (c .before .before .before .before .before .before .before .before .before .before .before .before .before .before .blank-certificate .ensures) at (c .before .before .before .before .before .before .before .before .before .read-file2 .ensures)) (c .before .before .before .before .before .before .before .before .before .read-file2 .kept .1 .0 ∙ blank) (c .before .before .before .before .before .check .ensures .0) (w .0) (w .1)
 

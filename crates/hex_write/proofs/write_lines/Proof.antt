@@ -6,17 +6,17 @@ use mathlib.Core.List.{_++_}
 use Prim.Native.Nat.{_≤_, _-_, _+_, _*_}
 use native.Mathlib.Omega.{arith}
 use lib.ListN.{length, take, drop, length-take, length-drop}
-use Rattle.hex_write.specs.ImageText.{records, recordLine, imageText, endLine}
+use Rattle.hex_write.specs.ImageText.{records, recordLine, recordCount, imageText, endLine}
 use Rattle.hex_write.specs.ImageTextLaws.{records-more, length-records, line-back}
 use borrow.Author.Needs.{needs}
 use Rattle.hex_write.proofs.write_lines.Statement.{statement}
 use Rattle.hex_write.proofs.write_lines.Tie as tie
 
 abbrev Inv-loop : tie.InvT-loop
-Inv-loop image out₀ k₀ out k = (k ≤ 256) × (out ≡ records image k ++ drop (k * 44) out₀) × (length out ≡ length out₀)
+Inv-loop image out₀ k₀ out k = (k ≤ recordCount) × (out ≡ records image k ++ drop (k * 44) out₀) × (length out ≡ length out₀)
 
 abbrev μ-loop : tie.MeasureT-loop
-μ-loop image out₀ k₀ out k = 256 - k
+μ-loop image out₀ k₀ out k = recordCount - k
 
 loop-holds : tie.Need-loop-holds Inv-loop μ-loop
 unfolding records
@@ -67,7 +67,7 @@ part-write-end-end c = search needs
 
 write-end-requires : tie.Need-write-end-requires Inv-loop μ-loop
 write-end-requires c κs = let l = c .before .before .loop in
-    let p : 12 ≤ length (take (length (l .out) - 11264) (drop 11264 (l .out))) = simp (length-take, length-drop) (omega arith) in
+    let p : 12 ≤ length (take (length (l .out) - recordCount * 44) (drop (recordCount * 44) (l .out))) = simp (length-take, length-drop) (omega arith) in
     p
 
 same-length : tie.Need-same-length Inv-loop μ-loop
@@ -78,9 +78,9 @@ unfolding imageText
 returns c = let a = c .before .before .before .before .before .before .before .before .args in
     let l = c .before .before .before .before .before .loop in
     let m = now (a .image) in
-    let e : l .k ≡ 256 = omega arith in
-    let g : l .out ≡ records m 256 ++ drop 11264 (now (a .out)) = rw e at (l .inv .1) in
-    rw (c .before .before .write-end .ensures) (line-back (records m 256) endLine (l .out) (now (a .out)) 11264 12 (length-records m 256) g)
+    let e : l .k ≡ recordCount = omega arith in
+    let g : l .out ≡ records m recordCount ++ drop (recordCount * 44) (now (a .out)) = rw e at (l .inv .1) in
+    rw (c .before .before .write-end .ensures) (line-back (records m recordCount) endLine (l .out) (now (a .out)) (recordCount * 44) 12 (length-records m recordCount) g)
 
 pub write-lines-spec : {M : Type 1} → statement M
 write-lines-spec =

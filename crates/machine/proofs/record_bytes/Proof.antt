@@ -1,4 +1,4 @@
-use Rattle.machine.proofs.Joins.{eight-bytes}
+use Rattle.machine.proofs.Joins.{record-elements}
 use borrow.Author.Needs.{needs}
 use Rattle.machine.proofs.record_bytes.Statement.{statement}
 use Rattle.machine.proofs.record_bytes.Tie as tie
@@ -28,7 +28,7 @@ shared-slice-read-t17 : tie.Need-shared-slice-read-t17
 shared-slice-read-t17 c = search needs
 
 returns : tie.Need-returns
-returns c = eight-bytes _ (c .before .before .before .before .before .before .before .before .pre)
+returns c = record-elements _ (c .before .before .before .before .before .before .before .before .pre)
 
 pub record-bytes-spec : {M : Type 1} → statement M
 record-bytes-spec =

@@ -1,3 +1,4 @@
+use mathlib.Core.Path.{refl}
 use Rattle.semantics.specs.Reset.{resetState}
 use Rattle.semantics.specs.ResetLaws.{reset-is-reset}
 use borrow.Author.Needs.{needs}
@@ -7,9 +8,13 @@ use Rattle.machine.proofs.reset.Tie as tie
 reset-registers-requires : tie.Need-reset-registers-requires
 reset-registers-requires c κs = search needs
 
+state-with-requires : tie.Need-state-with-requires
+state-with-requires c κs = search needs
+
 returns : tie.Need-returns
 unfolding resetState
-returns c = (simp (c .reset-registers .ensures), rw (c .reset-registers .ensures) reset-is-reset)
+returns c =
+    rw (c .state-with .ensures, c .before .reset-registers .ensures) (refl, reset-is-reset)
 
 pub reset-spec : {M : Type 1} → statement M
-reset-spec = tie.close (tie.spec reset-registers-requires returns)
+reset-spec = tie.close (tie.spec reset-registers-requires state-with-requires returns)

@@ -1,4 +1,5 @@
 use borrow.Author.Needs.{needs}
+use Rattle.base.specs.Lengths.{romLength, recordLength}
 use Rattle.entry.specs.InPlace.{stateWith, stepped}
 use Rattle.semantics.specs.Run.{runFrom}
 use lib.ListN.{length, length-take, length-drop}
@@ -13,8 +14,8 @@ use Rattle.machine.proofs.run_records.Tie as tie
 abbrev Inv-loop : tie.InvT-loop
 Inv-loop image schedule count regs₀ core₀ i₀ regs core i =
     (i ≤ count)
-    × (count ≡ length schedule / 8)
-    × (length image ≡ 4096)
+    × (count ≡ length schedule / recordLength)
+    × (length image ≡ romLength)
     × (runFrom (count - i) image schedule i (stateWith regs core) ≡ runFrom count image schedule 0 (stateWith regs₀ core₀))
 
 abbrev μ-loop : tie.MeasureT-loop
@@ -51,16 +52,16 @@ state-with-requires : tie.Need-state-with-requires Inv-loop μ-loop
 state-with-requires c κs = search needs
 
 returns : tie.Need-returns Inv-loop μ-loop
-returns c = simp (c .state-with .ensures) (sym (stops _ _ _ _ _ (stepped _ (c .before .before .before .before .step-in-place .result)) (c .before .before .before .before .before .before .before .before .before .before .loop .inv .2) (c .before .before .before .before .before .before .before .before .before .before .loop .inv .1) (omega (arith, c .before .before .before .before .before .before .before .before .before .loop-test .taken)) (c .before .before .before .before .step-in-place .ensures ∙ simp (c .before .before .before .before .before .before .before .record-bytes .ensures)) (c .before .if1 .taken)) ∙ (c .before .before .before .before .before .before .before .before .before .before .loop .inv .3 ∙ simp (c .before .before .before .before .before .before .before .before .before .before .before .core-of .ensures)))
+returns c = simp (c .state-with .ensures) (sym (stops _ _ _ _ _ (stepped _ (c .before .before .before .before .step-in-place .result)) (c .before .before .before .before .before .before .before .before .before .before .loop .inv .2) (c .before .before .before .before .before .before .before .before .before .before .loop .inv .1) (omega (arith, c .before .before .before .before .before .before .before .before .before .loop-test .taken)) (c .before .before .before .before .step-in-place .ensures .0 ∙ simp (c .before .before .before .before .before .before .before .record-bytes .ensures)) (c .before .if1 .taken)) ∙ (c .before .before .before .before .before .before .before .before .before .before .loop .inv .3 ∙ simp (c .before .before .before .before .before .before .before .before .before .before .before .core-of .ensures)))
 
 add-i : tie.Need-add-i Inv-loop μ-loop
-add-i c = omega arith
+add-i c = omega (arith, c .before .before .before .before .before .before .before .before)
 
 loop-less : tie.Need-loop-less Inv-loop μ-loop
 loop-less c = omega arith
 
 loop-again : tie.Need-loop-again Inv-loop μ-loop
-loop-again c = (omega arith, search needs, search needs, sym (goes-on _ _ _ _ _ (stepped _ (c .before .before .before .step-in-place .result)) (c .before .before .before .before .before .before .before .before .before .loop .inv .2) (c .before .before .before .before .before .before .before .before .before .loop .inv .1) (omega (arith, c .before .before .before .before .before .before .before .before .loop-test .taken)) (c .before .before .before .step-in-place .ensures ∙ simp (c .before .before .before .before .before .before .record-bytes .ensures)) (c .if1 .left)) ∙ c .before .before .before .before .before .before .before .before .before .loop .inv .3)
+loop-again c = (omega arith, search needs, search needs, sym (goes-on _ _ _ _ _ (stepped _ (c .before .before .before .step-in-place .result)) (c .before .before .before .before .before .before .before .before .before .loop .inv .2) (c .before .before .before .before .before .before .before .before .before .loop .inv .1) (omega (arith, c .before .before .before .before .before .before .before .before .loop-test .taken)) (c .before .before .before .step-in-place .ensures .0 ∙ simp (c .before .before .before .before .before .before .record-bytes .ensures)) (c .if1 .left)) ∙ c .before .before .before .before .before .before .before .before .before .loop .inv .3)
 
 state-with-requires-2 : tie.Need-state-with-requires-2 Inv-loop μ-loop
 state-with-requires-2 c κs = search needs

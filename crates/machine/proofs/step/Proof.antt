@@ -1,18 +1,21 @@
 use Rattle.machine.proofs.Joins.{step-right}
 use mathlib.Core.Path.{sym, _∙_}
 use Rattle.semantics.specs.Step.{stepOf}
-use borrow.Author.Tests.{eq-eqb, ne-eqb}
+use borrow.Author.Tests.{eqb-true, ne-eqb, not-true, not-false}
 use borrow.Author.Needs.{needs}
 use Rattle.machine.proofs.step.Statement.{statement}
 use Rattle.machine.proofs.step.Tie as tie
 
+is-image-length-requires : tie.Need-is-image-length-requires
+is-image-length-requires c κs = search needs
+
 returns : tie.Need-returns
 unfolding stepOf
-returns c = simp (ne-eqb _ _ (c .if1 .taken))
+returns c = simp (sym (c .before .is-image-length .ensures) ∙ not-true _ (c .if1 .taken))
 
 returns-2 : tie.Need-returns-2
 unfolding stepOf
-returns-2 c = simp (ne-eqb _ _ (c .if2 .taken), eq-eqb _ _ (c .before .if1 .left))
+returns-2 c = simp (ne-eqb _ _ (c .if2 .taken), (sym (c .before .before .is-image-length .ensures) ∙ not-false _ (c .before .if1 .left)))
 
 record-bytes-requires : tie.Need-record-bytes-requires
 record-bytes-requires c κs = search needs
@@ -27,12 +30,13 @@ state-with-requires : tie.Need-state-with-requires
 state-with-requires c κs = search needs
 
 returns-3 : tie.Need-returns-3
-returns-3 c = simp (c .state-with .ensures) (c .before .before .step-in-place .ensures ∙ (simp (c .before .before .before .before .before .core-of .ensures, c .before .before .before .before .before .before .record-bytes .ensures) (sym (step-right _ _ _ (c .before .before .before .before .before .before .before .before .before .if1 .left) (c .before .before .before .before .before .before .before .before .if2 .left)))))
+returns-3 c = simp (c .state-with .ensures) (c .before .before .step-in-place .ensures .0 ∙ (simp (c .before .before .before .before .before .core-of .ensures, c .before .before .before .before .before .before .record-bytes .ensures) (sym (step-right _ _ _ (eqb-true _ _ (sym (c .before .before .before .before .before .before .before .before .before .before .is-image-length .ensures) ∙ not-false _ (c .before .before .before .before .before .before .before .before .before .if1 .left))) (c .before .before .before .before .before .before .before .before .if2 .left)))))
 
 pub step-spec : {M : Type 1} → statement M
 step-spec =
     tie.close
     (tie.spec
+    is-image-length-requires
     returns
     returns-2
     record-bytes-requires

@@ -1,6 +1,6 @@
 -- `opcode_words::length_word` meets its contract.
 -- Assumes nothing.
-use Rattle.base.specs.Choice.{choose-miss}
+use Rattle.base.specs.ChoiceLaws.{choose-miss}
 use Rattle.opcode_words.proofs.length_word.Statement.{statement}
 use Rattle.opcode_words.proofs.length_word.Tie as tie
 

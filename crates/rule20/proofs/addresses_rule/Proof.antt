@@ -3,6 +3,7 @@ use Rattle.safety.specs.Rules.{addressRule}
 use borrow.Author.Count.{below-more}
 use Rattle.certificate.specs.Layout.{certificateOf}
 use Rattle.base.specs.Formula.{Holds, decide-yes, decide-no, decide-true, decide-false}
+use Rattle.base.specs.Lengths.{romLength}
 use Prim.Native.Nat.{ℕ, _-_, _≤_, _<_}
 use borrow.Author.Tests.{not-true, not-false}
 use borrow.Author.Needs.{needs}
@@ -11,10 +12,10 @@ use Rattle.rule20.proofs.addresses_rule.Statement.{statement}
 use Rattle.rule20.proofs.addresses_rule.Tie as tie
 
 abbrev Inv-loop : tie.InvT-loop
-Inv-loop cert a₀ a = (a ≤ 4096) × ((k : ℕ) → k < a → Holds (addressRule (certificateOf cert) k))
+Inv-loop cert a₀ a = (a ≤ romLength) × ((k : ℕ) → k < a → Holds (addressRule (certificateOf cert) k))
 
 abbrev μ-loop : tie.MeasureT-loop
-μ-loop cert a₀ a = 4096 - a
+μ-loop cert a₀ a = romLength - a
 
 loop-holds : tie.Need-loop-holds Inv-loop μ-loop
 loop-holds c = (omega arith, λ k hk. absurd (omega arith))

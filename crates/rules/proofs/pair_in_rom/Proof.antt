@@ -30,6 +30,9 @@ add-high c = search needs
 add-high-2 : tie.Need-add-high-2
 add-high-2 c = search needs
 
+cast-inside : tie.Need-cast-inside
+cast-inside c = search needs
+
 add-inside : tie.Need-add-inside
 add-inside c = search needs
 
@@ -52,6 +55,7 @@ pair-in-rom-spec =
     mul-high
     add-high
     add-high-2
+    cast-inside
     add-inside
     claimed-requires
     returns)

@@ -52,7 +52,7 @@ refuse-requires-3 c κs = search needs
 
 returns : tie.Need-returns
 unfolding afterDecode
-returns c saved = rw (c .finish .ensures) (finishes saved _ _ (c .before .before .before .before .execute .result) _ ∙ simp (c .before .before .before .before .execute .ensures .0, c .before .before .before .before .execute .ensures .1, c .before .cycles .ensures, c .before .before .byte-at .ensures, c .before .before .before .before .before .before .action-of .ensures, c .before .before .before .before .before .before .before .wrapping-add-u16 .ensures, c .before .before .before .before .before .before .before .before .before .before .d .given .1))
+returns c saved = rw (c .finish .ensures) (finishes saved _ _ (c .before .before .before .before .execute .result) _ _ ∙ simp (c .before .before .before .before .execute .ensures .0, c .before .before .before .before .execute .ensures .1, c .before .cycles .ensures, c .before .before .byte-at .ensures, c .before .before .before .before .before .before .action-of .ensures, c .before .before .before .before .before .before .before .wrapping-add-u16 .ensures, c .before .before .before .before .before .before .before .before .before .before .d .given .1))
 
 returns-2 : tie.Need-returns-2
 unfolding afterDecode

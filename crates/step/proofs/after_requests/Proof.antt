@@ -1,4 +1,4 @@
-use Rattle.semantics.specs.Step.{stepAfterRequests}
+use Rattle.semantics.specs.Step.{actAfterRequests}
 use Rattle.entry.specs.InPlaceLaws.{finishes}
 use mathlib.Core.Path.{_∙_}
 use borrow.Author.Needs.{needs}
@@ -9,15 +9,15 @@ enter-requires : tie.Need-enter-requires
 enter-requires c κs = search needs
 
 returns : tie.Need-returns
-unfolding stepAfterRequests
-returns c saved = rw (c .enter .ensures .0, c .enter .ensures .1) (finishes saved _ _ _ _ ∙ simp (c .before .before .if1 .taken))
+unfolding actAfterRequests
+returns c saved = rw (c .enter .ensures .0, c .enter .ensures .1) (finishes saved _ _ _ _ _ ∙ simp (c .before .before .if1 .taken))
 
-mode-step-requires : tie.Need-mode-step-requires
-mode-step-requires c κs = search needs
+mode-act-requires : tie.Need-mode-act-requires
+mode-act-requires c κs = search needs
 
 returns-2 : tie.Need-returns-2
-unfolding stepAfterRequests
-returns-2 c saved = c .mode-step .ensures saved ∙ simp (c .before .before .if1 .left)
+unfolding actAfterRequests
+returns-2 c saved = c .mode-act .ensures saved ∙ simp (c .before .before .if1 .left)
 
 pub after-requests-spec : {M : Type 1} → statement M
-after-requests-spec = tie.close (tie.spec enter-requires returns mode-step-requires returns-2)
+after-requests-spec = tie.close (tie.spec enter-requires returns mode-act-requires returns-2)

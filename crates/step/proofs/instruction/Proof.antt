@@ -1,4 +1,4 @@
-use Rattle.semantics.specs.Step.{instructionStep}
+use Rattle.semantics.specs.Step.{instructionAct}
 use mathlib.Core.Path.{_∙_}
 use borrow.Author.Needs.{needs}
 use Rattle.step.proofs.instruction.Statement.{statement}
@@ -14,7 +14,7 @@ after-decode-requires : tie.Need-after-decode-requires
 after-decode-requires c κs = search needs
 
 returns : tie.Need-returns
-unfolding instructionStep
+unfolding instructionAct
 returns c saved = c .after-decode .ensures saved ∙ simp (c .before .before .decode .ensures)
 
 pub instruction-spec : {M : Type 1} → statement M

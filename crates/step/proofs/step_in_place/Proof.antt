@@ -1,39 +1,24 @@
-use Rattle.semantics.specs.Step.{stepWith}
-use mathlib.Core.Path.{_∙_}
+use Rattle.semantics.specs.Step.{Acted, settled}
+use mathlib.Core.Path.{_∙_, ap}
 use borrow.Author.Needs.{needs}
 use Rattle.step.proofs.step_in_place.Statement.{statement}
 use Rattle.step.proofs.step_in_place.Tie as tie
 
-element-copy-out-requests : tie.Need-element-copy-out-requests
-element-copy-out-requests c = search needs
+act-requires : tie.Need-act-requires
+act-requires c κs = search needs
 
-acting-requests-requires : tie.Need-acting-requests-requires
-acting-requests-requires c κs = search needs
-
-post-requires : tie.Need-post-requires
-post-requires c κs = search needs
-
-entry-due-requires : tie.Need-entry-due-requires
-entry-due-requires c κs = search needs
-
-after-requests-requires : tie.Need-after-requests-requires
-after-requests-requires c κs = search needs
-
-put-back-requires : tie.Need-put-back-requires
-put-back-requires c κs = search needs
+settle-requires : tie.Need-settle-requires
+settle-requires c κs = search needs
 
 returns : tie.Need-returns
-unfolding stepWith
-returns c = rw (c .put-back .ensures) (c .before .before .before .after-requests .ensures _ ∙ simp (c .before .before .before .before .before .entry-due .ensures, c .before .before .before .before .before .before .before .post .ensures, c .before .before .before .before .before .before .before .before .acting-requests .ensures))
+returns c =
+    let e = c .before .before .act .ensures in (
+      c .settle .ensures .0 _ ∙ ap (settled _) e,
+      (
+        c .settle .ensures .1 .0 ∙ ap (λ (a : Acted). a .retired) e,
+        c .settle .ensures .1 .1 ∙ ap (λ (a : Acted). a .elapsed) e,
+      ),
+    )
 
 pub step-in-place-spec : {M : Type 1} → statement M
-step-in-place-spec =
-    tie.close
-    (tie.spec
-    element-copy-out-requests
-    acting-requests-requires
-    post-requires
-    entry-due-requires
-    after-requests-requires
-    put-back-requires
-    returns)
+step-in-place-spec = tie.close (tie.spec act-requires settle-requires returns)

@@ -1,13 +1,14 @@
+-- `same_registers` is safe and ends: the measure is the number of registers left.
 use Prim.Native.Nat.{_≤_, _-_}
 use borrow.Author.Needs.{needs}
 use Rattle.step_vectors.proofs.same_registers.Statement.{statement}
 use Rattle.step_vectors.proofs.same_registers.Tie as tie
 
 abbrev Inv-loop : tie.InvT-loop
-Inv-loop regs case i₀ i = i ≤ 256
+Inv-loop regs case at i₀ i = i ≤ 256
 
 abbrev μ-loop : tie.MeasureT-loop
-μ-loop regs case i₀ i = 256 - i
+μ-loop regs case at i₀ i = 256 - i
 
 loop-holds : tie.Need-loop-holds Inv-loop μ-loop
 loop-holds c = search needs
@@ -17,6 +18,9 @@ element-copy-out-if1 c = search needs
 
 add-if1 : tie.Need-add-if1 Inv-loop μ-loop
 add-if1 c = search needs
+
+add-if1-2 : tie.Need-add-if1-2 Inv-loop μ-loop
+add-if1-2 c = search needs
 
 element-copy-out-if1-2 : tie.Need-element-copy-out-if1-2 Inv-loop μ-loop
 element-copy-out-if1-2 c = search needs
@@ -45,6 +49,7 @@ same-registers-spec =
     loop-holds
     element-copy-out-if1
     add-if1
+    add-if1-2
     element-copy-out-if1-2
     returns
     add-i

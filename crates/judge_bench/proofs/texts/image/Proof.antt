@@ -1,13 +1,14 @@
 use Prim.Native.Nat.{_≤_, _-_}
 use borrow.Author.Needs.{needs}
+use Rattle.base.specs.Lengths.{romLength}
 use Rattle.judge_bench.proofs.texts.image.Statement.{statement}
 use Rattle.judge_bench.proofs.texts.image.Tie as tie
 
 abbrev Inv-loop : tie.InvT-loop
-Inv-loop image₀ i₀ image i = i ≤ 4096
+Inv-loop image₀ i₀ image i = i ≤ romLength
 
 abbrev μ-loop : tie.MeasureT-loop
-μ-loop image₀ i₀ image i = 4096 - i
+μ-loop image₀ i₀ image i = romLength - i
 
 loop-holds : tie.Need-loop-holds Inv-loop μ-loop
 loop-holds c = search needs

@@ -1,17 +1,23 @@
+-- `number`: at each turn the digits that are left make of the number what all of them make of 0.
+-- Assumes nothing.
+use denote.Ref.{now}
+use mathlib.Core.Path.{_≡_, refl, sym, _∙_}
 use Prim.Native.Nat.{_≤_, _-_}
-use lib.ListN.{length}
+use lib.ListN.{length, drop, drop-of-length-le}
+use Rattle.bench_support.specs.Arguments.{numberFrom, numberOf, number-next}
 use borrow.Author.Needs.{needs}
-use Rattle.machine_bench.proofs.number.Statement.{statement}
-use Rattle.machine_bench.proofs.number.Tie as tie
+use Rattle.bench_support.proofs.number.Statement.{statement}
+use Rattle.bench_support.proofs.number.Tie as tie
 
 abbrev Inv-loop : tie.InvT-loop
-Inv-loop text n₀ i₀ n i = i ≤ length text
+Inv-loop text n₀ i₀ n i = (i ≤ length text) × (numberOf text ≡ numberFrom n (drop i text))
 
 abbrev μ-loop : tie.MeasureT-loop
 μ-loop text n₀ i₀ n i = length text - i
 
 loop-holds : tie.Need-loop-holds Inv-loop μ-loop
-loop-holds c = search needs
+unfolding numberOf
+loop-holds c = (search needs, refl)
 
 mul-n : tie.Need-mul-n Inv-loop μ-loop
 mul-n c = search needs
@@ -32,10 +38,11 @@ loop-less : tie.Need-loop-less Inv-loop μ-loop
 loop-less c = search needs
 
 loop-again : tie.Need-loop-again Inv-loop μ-loop
-loop-again c = search needs
+loop-again c = let l = c .before .before .loop in
+    (search needs, l .inv .1 ∙ number-next (l .n) (now (c .before .before .before .args .text)) (l .i) (c .before .loop-test .taken))
 
 returns : tie.Need-returns Inv-loop μ-loop
-returns c = search needs
+returns c = sym (c .before .loop .inv .1 ∙ rw (drop-of-length-le (now (c .before .before .args .text)) (c .loop-test .left)))
 
 pub number-spec : {M : Type 1} → statement M
 number-spec =

@@ -1,8 +1,8 @@
-use Rattle.semantics.specs.Step.{modeStep}
+use Rattle.semantics.specs.Step.{modeAct}
 use mathlib.Core.Path.{_∙_}
 use borrow.Author.Needs.{needs}
-use Rattle.step.proofs.mode_step.Statement.{statement}
-use Rattle.step.proofs.mode_step.Tie as tie
+use Rattle.step.proofs.mode_act.Statement.{statement}
+use Rattle.step.proofs.mode_act.Tie as tie
 
 enum-told : tie.Need-enum-told
 enum-told c = search needs
@@ -23,19 +23,19 @@ wait-requires-2 : tie.Need-wait-requires-2
 wait-requires-2 c κs = search needs
 
 returns : tie.Need-returns
-unfolding modeStep
+unfolding modeAct
 returns c saved = c .instruction .ensures saved ∙ simp (c .before .before .enum-told .given .1)
 
 returns-2 : tie.Need-returns-2
-unfolding modeStep
+unfolding modeAct
 returns-2 c saved = simp (c .wait .ensures, c .before .enum-told2 .given .1)
 
 returns-3 : tie.Need-returns-3
-unfolding modeStep
+unfolding modeAct
 returns-3 c saved = simp (c .wait2 .ensures, c .before .enum-told3 .given .1)
 
-pub mode-step-spec : {M : Type 1} → statement M
-mode-step-spec =
+pub mode-act-spec : {M : Type 1} → statement M
+mode-act-spec =
     tie.close
     (tie.spec
     enum-told

@@ -1,8 +1,8 @@
 use mathlib.Core.Path.{_≡_, refl}
 use lib.ListN.{length}
 use borrow.Author.Needs.{needs}
-use Rattle.judge_bench.proofs.bytes.put_times.Statement.{statement}
-use Rattle.judge_bench.proofs.bytes.put_times.Tie as tie
+use Rattle.judge_bench.proofs.certificates.put_times.Statement.{statement}
+use Rattle.judge_bench.proofs.certificates.put_times.Tie as tie
 
 abbrev Inv-loop : tie.InvT-loop
 Inv-loop bytes₀ at part times next₀ left₀ bytes next left = length bytes ≡ length bytes₀

@@ -1,12 +1,17 @@
--- What holds of every cell of a list, and stays so when one is stored.
+-- What holds of every cell of a list: where all hold one value, and once another is stored.
 -- Assumes nothing.
 use mathlib.Core.List.{List, [], _∷_}
 use Prim.Native.Nat.{ℕ, zero, suc, _<_}
-use lib.ListN.{getD, set}
+use lib.ListN.{getD, set, replicate}
 
--- P holds of each place and what stands there
+-- P holds of each place and what stands there, past the end of 0
 abbrev pub Cells : (ℕ → ℕ → Type 0) → List ℕ → Type 0
 Cells P xs = (k : ℕ) → P k (getD xs k 0)
+
+pub filled-cells : (P : ℕ → ℕ → Type 0) (n x : ℕ) → ((k : ℕ) → P k x) → ((k : ℕ) → P k 0) → Cells P (replicate n x)
+filled-cells P zero x h z k = z k
+filled-cells P (suc n) x h z zero = h zero
+filled-cells P (suc n) x h z (suc k) = filled-cells (λ (i v : ℕ). P (suc i) v) n x (λ (i : ℕ). h (suc i)) (λ (i : ℕ). z (suc i)) k
 
 pub set-cells : (P : ℕ → ℕ → Type 0) (xs : List ℕ) (a x : ℕ) → Cells P xs → P a x → Cells P (set xs a x)
 set-cells P [] a x h p k = h k
