@@ -9,7 +9,7 @@ use lib.ListN.{length}
 use borrow.Author.Tests.{eq-eqb, ne-eqb}
 use Rattle.base.specs.Addresses.{romAddr}
 use Rattle.base.specs.Formula.{decide}
-use Rattle.base.specs.Lengths.{romLength, certificateLength}
+use Rattle.base.specs.Lengths.{romLength, isImageLength, isCertificateLength}
 use Rattle.certificate.specs.declared.Summary.{Summary}
 use Rattle.certificate.specs.declared.Verdict.the-variants.{Refused}
 use Rattle.certificate.specs.Layout.{Certificate, certificateOf}
@@ -31,26 +31,24 @@ module _ (C : Certificate) (image : List ℕ) (a : ℕ) (h : a < romLength) wher
   scan-stop z = ap (λ (n : ℕ). scan C image n a) (turn a h) ∙ rw (scan, ne-eqb (numberAt C image a) 0 z)
 
 module _ (image cert : List ℕ) where
-  pub image-length : (length image ≡ romLength → ⊥) → Refused 7 (romAddr 0) ≡ verdictOf image cert
+  pub image-length : isImageLength (length image) ≡ false → Refused 7 (romAddr 0) ≡ verdictOf image cert
   unfolding verdictOf
-  image-length n = rw (verdictOf, ne-eqb (length image) romLength n)
+  image-length n = rw (verdictOf, n)
 
-  pub certificate-length : length image ≡ romLength → (length cert ≡ certificateLength → ⊥)
+  pub certificate-length : isImageLength (length image) ≡ true → isCertificateLength (length cert) ≡ false
       → Refused 7 (romAddr 0) ≡ verdictOf image cert
   unfolding verdictOf
-  certificate-length e n = rw (verdictOf, eq-eqb (length image) romLength e, ne-eqb (length cert) certificateLength n)
+  certificate-length e n = rw (verdictOf, e, n)
 
-  module _ (e : length image ≡ romLength) (k : length cert ≡ certificateLength) where
+  module _ (e : isImageLength (length image) ≡ true) (k : isCertificateLength (length cert) ≡ true) where
     pub layout-broken : decide (rule20 (certificateOf cert) image) ≡ false → Refused 20 (romAddr 0) ≡ verdictOf image cert
     unfolding verdictOf verdictOn
-    layout-broken d =
-        rw (verdictOf, eq-eqb (length image) romLength e, eq-eqb (length cert) certificateLength k, verdictOn, d)
+    layout-broken d = rw (verdictOf, e, k, verdictOn, d)
 
     pub layout-holds : decide (rule20 (certificateOf cert) image) ≡ true
         → scan (certificateOf cert) image romLength 0 ≡ verdictOf image cert
     unfolding verdictOf verdictOn
-    layout-holds d =
-        rw (verdictOf, eq-eqb (length image) romLength e, eq-eqb (length cert) certificateLength k, verdictOn, d)
+    layout-holds d = rw (verdictOf, e, k, verdictOn, d)
 
 -- the rules' values in place of the rules
 abbrev pub holdingOf : Certificate → ℕ → Summary → ℕ → ℕ → Holding

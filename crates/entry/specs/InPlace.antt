@@ -39,7 +39,7 @@ rebuilt saved regs e = acted (pick (eqb (e .stop) 0) regs saved) e
 abbrev pub stepped : List ℕ → Ended → Stepped
 stepped regs e = record { state = stateWith regs (e .core); stop = e .stop }
 
--- what an instruction, which retires, or an entry leaves beside the registers, at a cost
+-- what an instruction (retired) or an entry (not retired) leaves beside the registers, at a cost
 unfoldable pub finished : Core → Next → Bool → ℕ → Ended
 finished s next retired cost =
     pick (eqb (next .stop) 0) (ended (coreAfter s (next .pc) (next .mode) cost) 0 retired cost) (ended s (next .stop) false 0)

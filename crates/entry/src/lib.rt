@@ -112,7 +112,7 @@ pub fn wait(s: Core, elapsed: u8) -> Ended
     }
 }
 
-// What an instruction, which retires, or an entry leaves, at a cost.
+// What an instruction (retired) or an entry (not retired) leaves, at a cost.
 pub fn finish(s: Core, next: Next, retired: bool, cost: u8) -> Ended
     ensures { λ r. ⌜ r ≡ finished s next retired cost ⌝ }
 {

@@ -15,7 +15,7 @@ use Rattle.hex_line.specs.declared.Fields.{Fields}
 use Rattle.hex_line.specs.declared.Fault.{Fault}
 use Rattle.hex_line.specs.declared.Line.{Line}
 
--- whether a lent buffer has one of them
+-- whether a lent buffer is as long as an image or a certificate
 abbrev pub bufferLength : ℕ → Bool
 bufferLength n = pick (isImageLength n) true (isCertificateLength n)
 

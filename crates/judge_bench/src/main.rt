@@ -20,6 +20,7 @@ fn argument() -> u64 {
     bench_support::number(&text)
 }
 
+// Two calls of `work`, as in `machine_bench`.
 fn main() {
     let rows = bench_support::rows_of(argument(), 6);
     let last = rows.last;

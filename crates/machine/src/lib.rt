@@ -37,7 +37,7 @@ fn record_bytes(s: &[u8]) -> Inputs
     [s[0], s[1], s[2], s[3], s[4], s[5], s[6], s[7]]
 }
 
-// One step of a state on an image, under a record: the next state and 0, or the state before it and the number of the refusal.
+// One step of a state on an image (`IMAGE_LENGTH`), under a record (`RECORD_LENGTH`): the next state and 0, or the state before it and the number of the refusal.
 pub fn step(image: &[u8], state: State, rec: &[u8]) -> Stepped
     ensures { λ r. ⌜ r ≡ stepOf (now (image .entry)) state (now (rec .entry)) ⌝ }
 {

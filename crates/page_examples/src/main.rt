@@ -413,12 +413,12 @@ fn steps_from(image: &[u8; IMAGE_LENGTH], state: State, steps: u8) -> Stepped {
 
 // The machine that a page gives.
 fn state_of(regs: [u8; 256], rest: Rest) -> State {
-    State {
-        regs: regs,
-        pc: RomAddr(rest.pc),
-        mode: Mode::Running,
-        cycles: rest.cycles,
-    }
+    let mut state = machine::reset();
+    state.regs = regs;
+    let pc = RomAddr(rest.pc);
+    state.pc = pc;
+    state.cycles = rest.cycles;
+    state
 }
 
 // What a machine has beside its registers.

@@ -11,7 +11,7 @@ use lib.Seq.{getD-drop}
 use Rattle.base.specs.Addresses.{romAddr}
 use Rattle.base.specs.Choice.{pick}
 use Rattle.base.specs.Formula.{of-true, sound, test, _&_}
-use Rattle.base.specs.Lengths.{romLength, certificateLength}
+use Rattle.base.specs.Lengths.{romLength, isImageLength, isCertificateLength}
 use Rattle.certificate.specs.declared.Verdict.{Verdict}
 use Rattle.certificate.specs.declared.Verdict.the-variants.{Accepted, Refused}
 use Rattle.certificate.specs.Layout.{certificateFrom, part, certificateOf}
@@ -45,19 +45,17 @@ lengths false v h = absurd (never-refused 7 (romAddr 0) h)
 
 pub record AcceptedPair (image cert : List ℕ) : Type 0 where
   pub imageLength : length image ≡ romLength
-  pub certLength : length cert ≡ certificateLength
   pub verdict : verdictOn (certificateOf cert) image ≡ Accepted
 
 pub accepted-pair : (image cert : List ℕ) → verdictOf image cert ≡ Accepted → AcceptedPair image cert
 unfolding verdictOf
 accepted-pair image cert h =
-    let l = lengths (eqb (length image) romLength && eqb (length cert) certificateLength) (verdictOn (certificateOf cert) image) h in
+    let l = lengths (isImageLength (length image) && isCertificateLength (length cert)) (verdictOn (certificateOf cert) image) h in
     let p =
-    sound (test (eqb (length image) romLength) & test (eqb (length cert) certificateLength))
-    (of-true (eqb (length image) romLength && eqb (length cert) certificateLength) (l .0)) in
+    sound (test (isImageLength (length image)) & test (isCertificateLength (length cert)))
+    (of-true (isImageLength (length image) && isCertificateLength (length cert)) (l .0)) in
     record {
-      imageLength = eqb→eq (length image) romLength (of-true (eqb (length image) romLength) (p .0));
-      certLength = eqb→eq (length cert) certificateLength (of-true (eqb (length cert) certificateLength) (p .1));
+      imageLength = eqb→eq (length image) romLength (of-true (isImageLength (length image)) (p .0));
       verdict = l .1;
     }
 

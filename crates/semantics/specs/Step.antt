@@ -56,7 +56,7 @@ refusedAct s n = record { state = s; stop = n; retired = false; elapsed = 0 }
 abbrev pub movedTo : State → List ℕ → RomAddr → Mode → ℕ → State
 movedTo s regs pc mode cost = record { regs = regs; pc = pc; mode = mode; cycles = (s .cycles + cost) % 4294967296 }
 
--- the act with what an instruction, which retires, or an entry leaves, at a cost
+-- the act with what an instruction (retired) or an entry (not retired) leaves, at a cost
 unfoldable pub finishOf : State → Executed → Bool → ℕ → Acted
 finishOf s e retired cost =
     pick (eqb (e .next .stop) 0)
