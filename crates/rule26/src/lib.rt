@@ -83,7 +83,7 @@ fn claims_follow(cert: &[u8], a: RomAddr, e: Edge, w: Write) -> bool
 
 // The write cannot change cell x.
 fn unchanged_by(cert: &[u8], a: RomAddr, w: Write, x: RegAddr) -> bool
-    ensures { λ r. ⌜ r ≡ decide (isUnchanged (certificateOf (now (cert .entry))) (changeOf (certificateOf (now (cert .entry))) (a .0) w (x .0))) ⌝ }
+    ensures { λ r. ⌜ r ≡ decide (isUnchanged (changeOf (certificateOf (now (cert .entry))) (a .0) w (x .0))) ⌝ }
 {
     let c = claims::change_of(cert, a, w, x);
     match c {
@@ -190,7 +190,7 @@ fn call26(cert: &[u8], a: RomAddr, next: RomAddr, t: RomAddr) -> bool
 }
 
 fn edges26(cert: &[u8], a: RomAddr, s: Summary, f: Flow, next: RomAddr) -> bool
-    ensures { λ r. ⌜ r ≡ decide (edges (certificateOf (now (cert .entry))) f (next .0) (Rattle.safety.specs.Rules.edge26 (certificateOf (now (cert .entry))) (a .0) s)) ⌝ }
+    ensures { λ r. ⌜ r ≡ decide (edges f (next .0) (Rattle.safety.specs.Rules.edge26 (certificateOf (now (cert .entry))) (a .0) s)) ⌝ }
 {
     match f {
         Flow::Step(cc, to) => behind26(cert, a, s, cc, next) & jump26(cert, a, s, cc, to),
@@ -202,7 +202,7 @@ fn edges26(cert: &[u8], a: RomAddr, s: Summary, f: Flow, next: RomAddr) -> bool
 }
 
 fn calls26(cert: &[u8], a: RomAddr, f: Flow, next: RomAddr) -> bool
-    ensures { λ r. ⌜ r ≡ decide (calls (certificateOf (now (cert .entry))) f (Rattle.safety.specs.Rules.call26 (certificateOf (now (cert .entry))) (a .0) (next .0))) ⌝ }
+    ensures { λ r. ⌜ r ≡ decide (calls f (Rattle.safety.specs.Rules.call26 (certificateOf (now (cert .entry))) (a .0) (next .0))) ⌝ }
 {
     match f {
         Flow::Step(_, _) => true,

@@ -64,7 +64,7 @@ allPaid s e cost f = forallBelow 256 (paidAt s e cost f)
 
 module _ (C : Certificate) (a : ℕ) where
   abbrev pub calls27 : Flow → ℕ → ℕ → Formula
-  calls27 f cost next = calls C f (λ t. paid C a (plainEdge next) cost (boundAfterCall C a next t))
+  calls27 f cost next = calls f (λ t. paid C a (plainEdge next) cost (boundAfterCall C a next t))
 
   abbrev pub ends27 : Flow → ℕ → Formula
-  ends27 f cost = ends C f (paid C a (plainEdge 0) cost (λ c. 0))
+  ends27 f cost = ends f (paid C a (plainEdge 0) cost (λ c. 0))

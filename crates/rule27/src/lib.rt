@@ -260,7 +260,7 @@ fn row_rule(cert: &[u8], a: RomAddr) -> bool
 }
 
 fn edges27(cert: &[u8], a: RomAddr, s: Summary, f: Flow, cost: u8, next: RomAddr) -> bool
-    ensures { λ r. ⌜ r ≡ decide (edges (certificateOf (now (cert .entry))) f (next .0) (Rattle.safety.specs.Rules.edge27 (certificateOf (now (cert .entry))) (a .0) s cost)) ⌝ }
+    ensures { λ r. ⌜ r ≡ decide (edges f (next .0) (Rattle.safety.specs.Rules.edge27 (certificateOf (now (cert .entry))) (a .0) s cost)) ⌝ }
 {
     match f {
         Flow::Step(cc, to) => behind27(cert, a, s, cost, cc, next)

@@ -10,11 +10,11 @@ use Rattle.safety.specs.Rules.{edges, calls, successor, callTarget, depthAfter}
 module _ (C : Certificate) (a : ℕ) where
   -- each successor is an entry of the same routine
   abbrev pub edges21 : Flow → ℕ → Formula
-  edges21 f next = edges C f next (λ e. successor C a (e .to))
+  edges21 f next = edges f next (λ e. successor C a (e .to))
 
   abbrev pub calls21 : Flow → ℕ → Formula
-  calls21 f next = calls C f (λ t. successor C a next & callTarget C a t)
+  calls21 f next = calls f (λ t. successor C a next & callTarget C a t)
 
   -- each successor's depth is as the instruction makes it
   abbrev pub edges25 : Flow → StackEffect → ℕ → Formula
-  edges25 f k next = edges C f next (λ e. eq (C .depth (e .to)) (depthAfter C k (C .depth a)))
+  edges25 f k next = edges f next (λ e. eq (C .depth (e .to)) (depthAfter k (C .depth a)))

@@ -12,7 +12,7 @@ use Rattle.claims.specs.Laws.{decide-same}
 module _ (C : Certificate) (a : ℕ) where
   -- where the pointer writes, x may be written
   abbrev pub touched : Bool → ℕ → Formula
-  touched writing x = test writing ⇒ mapped C x & writable C a x
+  touched writing x = test writing ⇒ mapped x & writable C a x
 
   -- x is of the same table as from
   abbrev pub inTable : ℕ → Bool → ℕ → Formula
@@ -32,9 +32,9 @@ module _ (C : Certificate) (a : ℕ) where
 
   -- one that writes, only those that may be written
   pub reach-write : (p o : ℕ)
-      → decide (reach C a p o (touched true)) ≡ decide (reach C a p o (λ x. mapped C x & writable C a x))
+      → decide (reach C a p o (touched true)) ≡ decide (reach C a p o (λ x. mapped x & writable C a x))
   unfolding reach
   reach-write p o =
-      decide-same (reach C a p o (touched true)) (reach C a p o (λ x. mapped C x & writable C a x))
+      decide-same (reach C a p o (touched true)) (reach C a p o (λ x. mapped x & writable C a x))
       (λ m. (m .0, (m .1 .0, (m .1 .1 .0, λ x hx k. (m .1 .1 .1 x hx k .0, m .1 .1 .1 x hx k .1 refl)))))
       (λ m. (m .0, (m .1 .0, (m .1 .1 .0, λ x hx k. (m .1 .1 .1 x hx k .0, λ t. m .1 .1 .1 x hx k .1)))))

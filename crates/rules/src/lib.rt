@@ -125,7 +125,7 @@ fn writable(cert: &[u8], a: RomAddr, x: RegAddr) -> bool
 }
 
 fn direct_read(cert: &[u8], x: Access) -> bool
-    ensures { λ r. ⌜ r ≡ decide (directRead (certificateOf (now (cert .entry))) x) ⌝ }
+    ensures { λ r. ⌜ r ≡ decide (directRead x) ⌝ }
 {
     match x {
         Access::Nothing => true,
@@ -136,7 +136,7 @@ fn direct_read(cert: &[u8], x: Access) -> bool
 
 // The second half of a pair is mapped and may be written.
 fn second_half(cert: &[u8], a: RomAddr, p: RegAddr) -> bool
-    ensures { λ r. ⌜ r ≡ decide (mapped (certificateOf (now (cert .entry))) (p .0 + 1) & Rattle.safety.specs.Rules.writable (certificateOf (now (cert .entry))) (a .0) (p .0 + 1)) ⌝ }
+    ensures { λ r. ⌜ r ≡ decide (mapped (p .0 + 1) & Rattle.safety.specs.Rules.writable (certificateOf (now (cert .entry))) (a .0) (p .0 + 1)) ⌝ }
 {
     if p.0 == 255 {
         return false;
@@ -285,7 +285,7 @@ pub fn rule24(cert: &[u8], a: RomAddr, s: Summary) -> bool
 
 // The depth as the instruction makes it.
 fn depth_after(cert: &[u8], k: StackEffect, d: u8) -> u16
-    ensures { λ r. ⌜ r ≡ depthAfter (certificateOf (now (cert .entry))) k d ⌝ }
+    ensures { λ r. ⌜ r ≡ depthAfter k d ⌝ }
 {
     match k {
         StackEffect::Same => d as u16,
@@ -355,7 +355,7 @@ fn edges25(cert: &[u8], a: RomAddr, f: Flow, k: StackEffect, next: RomAddr) -> b
 }
 
 fn calls25(cert: &[u8], a: RomAddr, f: Flow, next: RomAddr) -> bool
-    ensures { λ r. ⌜ r ≡ decide (calls (certificateOf (now (cert .entry))) f (callDepth (certificateOf (now (cert .entry))) (a .0) (next .0))) ⌝ }
+    ensures { λ r. ⌜ r ≡ decide (calls f (callDepth (certificateOf (now (cert .entry))) (a .0) (next .0))) ⌝ }
 {
     match f {
         Flow::Step(_, _) => true,
@@ -368,7 +368,7 @@ fn calls25(cert: &[u8], a: RomAddr, f: Flow, next: RomAddr) -> bool
 
 // A return stands at depth 0.
 fn ends25(cert: &[u8], a: RomAddr, f: Flow) -> bool
-    ensures { λ r. ⌜ r ≡ decide (ends (certificateOf (now (cert .entry))) f (eq (certificateOf (now (cert .entry)) .depth (a .0)) 0)) ⌝ }
+    ensures { λ r. ⌜ r ≡ decide (ends f (eq (certificateOf (now (cert .entry)) .depth (a .0)) 0)) ⌝ }
 {
     let e = entries::entry_of(entries::entry_part(cert, a));
     match f {

@@ -176,10 +176,10 @@ module _ (C : Certificate) (image : List ℕ) (global : Global C image) (more : 
   call-rules : (a : ℕ) (S : Summary) (next c : ℕ) (to : RomAddr) → S .flow ≡ Call to → RulesOf C a S next c → CallRules a (to .0) next c
   unfolding rule21 rule25 rule26 rule27
   call-rules a S next c to e rules = record {
-    target = subst (λ (k : Flow). Holds (calls C k (λ t. successor C a next & callTarget C a t))) e (rules .r21 (rules .r22) .1);
-    depth = subst (λ (k : Flow). Holds (calls C k (callDepth C a next))) e (rules .r25 .1 .1 .1 .0);
-    claims = subst (λ (k : Flow). Holds (calls C k (call26 C a next))) e (rules .r26 .1);
-    cost = subst (λ (k : Flow). Holds (calls C k (λ t. paid C a (plainEdge next) c (boundAfterCall C a next t)))) e (rules .r27 .1 .0);
+    target = subst (λ (k : Flow). Holds (calls k (λ t. successor C a next & callTarget C a t))) e (rules .r21 (rules .r22) .1);
+    depth = subst (λ (k : Flow). Holds (calls k (callDepth C a next))) e (rules .r25 .1 .1 .1 .0);
+    claims = subst (λ (k : Flow). Holds (calls k (call26 C a next))) e (rules .r26 .1);
+    cost = subst (λ (k : Flow). Holds (calls k (λ t. paid C a (plainEdge next) c (boundAfterCall C a next t)))) e (rules .r27 .1 .0);
   }
 
   -- the registers after CALL
@@ -464,11 +464,11 @@ module _ (C : Certificate) (image : List ℕ) (global : Global C image) (more : 
 
   -- what rules 25 and 27 say of a return
   pub end-rules : (a : ℕ) (S : Summary) (next c : ℕ) (flow : Flow) → S .flow ≡ flow → RulesOf C a S next c
-      → Holds (ends C flow (eq (C .depth a) 0)) × Holds (ends C flow (paid C a (plainEdge 0) c (λ v. 0)))
+      → Holds (ends flow (eq (C .depth a) 0)) × Holds (ends flow (paid C a (plainEdge 0) c (λ v. 0)))
   unfolding rule25 rule27
   end-rules a S next c flow e rules = (
-    subst (λ (k : Flow). Holds (ends C k (eq (C .depth a) 0))) e (rules .r25 .1 .1 .1 .1 .0),
-    subst (λ (k : Flow). Holds (ends C k (paid C a (plainEdge 0) c (λ v. 0)))) e (rules .r27 .1 .1 .0),
+    subst (λ (k : Flow). Holds (ends k (eq (C .depth a) 0))) e (rules .r25 .1 .1 .1 .1 .0),
+    subst (λ (k : Flow). Holds (ends k (paid C a (plainEdge 0) c (λ v. 0)))) e (rules .r27 .1 .1 .0),
   )
 
   pub inv-return : (ld : Bool) (r rec : List ℕ) (a : ℕ) (f : Frame) (fs : List Frame) (S : Summary) (next : RomAddr) (c : ℕ) → S .flow ≡ Return

@@ -49,14 +49,14 @@ unfolding mappedOf
 unmapped e = subst T (sym e) tt
 
 -- a register that is read is mapped, FFH is not
-pub reads-copies : (C : Certificate) (w : Write) (s : Access) → Reads w s → Holds (directRead C s) → Copies w
+pub reads-copies : (C : Certificate) (w : Write) (s : Access) → Reads w s → Holds (directRead s) → Copies w
 reads-copies C Write.Nothing s h m = tt
 reads-copies C (Write.Register x (Number n)) s h m = tt
 reads-copies C (Write.Register x OneMore) s h m = tt
 reads-copies C (Write.Register x OneLess) s h m = tt
 reads-copies C (Write.Register x (AtMost n)) s h m = tt
 reads-copies C (Write.Register x (CopyOf y)) s h m = λ q.
-    let z : mappedOf (y .0) ≡ true = subst (λ (u : Access). Holds (directRead C u)) h m in
+    let z : mappedOf (y .0) ≡ true = subst (λ (u : Access). Holds (directRead u)) h m in
     unmapped (sym (ap mappedOf q) ∙ z)
 reads-copies C (Write.Register x Unknown) s h m = tt
 reads-copies C (Write.Pointed p o) s h m = tt

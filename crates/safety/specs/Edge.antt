@@ -229,7 +229,7 @@ change-copies C a (Write.RegisterAndPair y p) x h =
 abbrev pub taken : ℕ → List ℕ → ℕ → Edge
 taken n r t = record { condition = n; outcome = condition n (at r flagsCell); to = t }
 
-pub kept-effect : (C : Certificate) (ch : Change) (r r′ : List ℕ) (x : ℕ) → Holds (isUnchanged C ch) → Effect C ch r r′ x → at r′ x ≡ at r x
+pub kept-effect : (C : Certificate) (ch : Change) (r r′ : List ℕ) (x : ℕ) → Holds (isUnchanged ch) → Effect C ch r r′ x → at r′ x ≡ at r x
 kept-effect C unchanged r r′ x h e = e
 kept-effect C (changed v) r r′ x h e = absurd h
 
@@ -416,17 +416,17 @@ module _ (C : Certificate) (a : ℕ) (e : EntryFacts C a) (x : ℕ) (own : C .cl
       let wl = w .limit in
       ⊎-elim (λ s. let k = limited (cx ∙ s) in omega arith) (λ s. omega arith) (w .who)
 
-  pub kept-cell : (w : Write) → x < 256 → Holds (directWrite C a w) → Holds (pointedWrite C a w) → Holds (isUnchanged C (changeOf C a w x))
+  pub kept-cell : (w : Write) → x < 256 → Holds (directWrite C a w) → Holds (pointedWrite C a w) → Holds (isUnchanged (changeOf C a w x))
   unfolding reach
   kept-cell Write.Nothing hx m p = tt
   kept-cell (Write.Register y v) hx m p = go (eqb x (y .0)) refl
     where
-      go : (b : Bool) → eqb x (y .0) ≡ b → Holds (isUnchanged C (pick b (changed v) unchanged))
+      go : (b : Bool) → eqb x (y .0) ≡ b → Holds (isUnchanged (pick b (changed v) unchanged))
       go false q = tt
       go true q = not-writable (y .0) (eqb→eq x (y .0) (of-true (eqb x (y .0)) q)) (m .1)
   kept-cell (Write.Pointed y o) hx m p = go (leb (low C a (y .0) + o) x && leb x (high C a (y .0) + o)) refl
     where
-      go : (b : Bool) → (leb (low C a (y .0) + o) x && leb x (high C a (y .0) + o)) ≡ b → Holds (isUnchanged C (pick b (changed Unknown) unchanged))
+      go : (b : Bool) → (leb (low C a (y .0) + o) x && leb x (high C a (y .0) + o)) ≡ b → Holds (isUnchanged (pick b (changed Unknown) unchanged))
       go false q = tt
       go true q =
           let z =
@@ -435,7 +435,7 @@ module _ (C : Certificate) (a : ℕ) (e : EntryFacts C a) (x : ℕ) (own : C .cl
           not-writable x refl (p .1 .1 .1 x hx z .1 .1)
   kept-cell (Write.RegisterAndPair y d) hx m p = go (eqb x (y .0) || eqb x (d .0) || eqb x (d .0 + 1)) refl
     where
-      go : (b : Bool) → (eqb x (y .0) || eqb x (d .0) || eqb x (d .0 + 1)) ≡ b → Holds (isUnchanged C (pick b (changed Unknown) unchanged))
+      go : (b : Bool) → (eqb x (y .0) || eqb x (d .0) || eqb x (d .0 + 1)) ≡ b → Holds (isUnchanged (pick b (changed Unknown) unchanged))
       go false q = tt
       go true q =
           ⊎-elim (⊎-elim (λ z. not-writable (y .0) z (m .1 .0)) (λ z. not-writable (d .0) z (m .1 .1 .1 .0)))

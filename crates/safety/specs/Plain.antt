@@ -54,7 +54,7 @@ rules-of C image a h =
 
 -- The edge that is taken --
 
-pub edge-taken : (C : Certificate) (n : ℕ) (to : RomAddr) (next f : ℕ) (rule : Edge → Formula) → Holds (edges C (Step n to) next rule)
+pub edge-taken : (C : Certificate) (n : ℕ) (to : RomAddr) (next f : ℕ) (rule : Edge → Formula) → Holds (edges (Step n to) next rule)
     → Holds (rule (record { condition = n; outcome = condition n f; to = pick (condition n f) (to .0) next }))
 edge-taken C n to next f rule m = go (condition n f) refl
   where
@@ -67,9 +67,9 @@ edge-taken C n to next f rule m = go (condition n f) refl
 
 -- the same, of a flow that is known to be a step
 pub edge-of : (C : Certificate) (flow : Flow) (n : ℕ) (to : RomAddr) → flow ≡ Step n to → (next : ℕ) (r : List ℕ) (rule : Edge → Formula)
-    → Holds (edges C flow next rule) → Holds (rule (taken n r (pick (condition n (at r flagsCell)) (to .0) next)))
+    → Holds (edges flow next rule) → Holds (rule (taken n r (pick (condition n (at r flagsCell)) (to .0) next)))
 edge-of C flow n to e next r rule m =
-    edge-taken C n to next (at r flagsCell) rule (subst (λ (k : Flow). Holds (edges C k next rule)) e m)
+    edge-taken C n to next (at r flagsCell) rule (subst (λ (k : Flow). Holds (edges k next rule)) e m)
 
 -- claims stay where the cells of the routine's own class stay
 pub claims-kept : (C : Certificate) (t : ℕ) (r r′ : List ℕ) → EntryFacts C t → Registers r′
@@ -180,7 +180,7 @@ module _ (C : Certificate) (image : List ℕ) (global : Global C image) where
   stack-step : (ld : Bool) (k : StackEffect) (c : ℕ) (r r′ : List ℕ) (a t : ℕ) (f : Frame) (fs : List Frame) → EntryFacts C a
       → C .routine a ≡ f .routine → Keeps C (C .side (C .routine a)) (C .routine a) (at r spCell + C .depth a) r r′
       → Before C a r → Holds (stackLoad C a k) → Holds (stackRule C a k) → C .routine t ≡ C .routine a
-      → C .depth t ≡ depthAfter C k (C .depth a) → at r′ spCell ≡ spAfter C k (at r spCell) → Stack C ld r a f fs
+      → C .depth t ≡ depthAfter k (C .depth a) → at r′ spCell ≡ spAfter C k (at r spCell) → Stack C ld r a f fs
       → Stack C (loadedAfter k ld) r′ t (spends c f) (outward c fs (f .opener))
   stack-step true k c r r′ a t f fs e h kp pre ml m ht hd hs l = go k ml m hd hs
     where
@@ -199,7 +199,7 @@ module _ (C : Certificate) (image : List ℕ) (global : Global C image) where
       lo : C .floor + C .need (C .routine a) ≤ at r spCell + C .depth a
       lo = pre .lowest (l .loaded)
 
-      go : (k : StackEffect) → Holds (stackLoad C a k) → Holds (stackRule C a k) → C .depth t ≡ depthAfter C k (C .depth a)
+      go : (k : StackEffect) → Holds (stackLoad C a k) → Holds (stackRule C a k) → C .depth t ≡ depthAfter k (C .depth a)
           → at r′ spCell ≡ spAfter C k (at r spCell) → Stack C (loadedAfter k true) r′ t (spends c f) (outward c fs (f .opener))
       go Same ml m hd hs = record { loaded = omega (arith, hi, l .loaded); room = omega (arith, nd, l .room); chain = mv (omega (arith, lo)) }
       go Push ml m hd hs = record { loaded = omega (arith, hi, l .loaded); room = omega (arith, nd, l .room); chain = mv (omega (arith, lo)) }

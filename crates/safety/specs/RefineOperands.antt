@@ -69,9 +69,9 @@ module _ (C : Certificate) (a : ℕ) where
 
   -- the rule of places that are written
   abbrev pub writablePlace : ℕ → Formula
-  writablePlace x = mapped C x & writable C a x
+  writablePlace x = mapped x & writable C a x
 
-  pub may-read : (s : Operand) → Holds (directRead C (reading s)) → Holds (pointedRead C a (reading s)) → Allowed anyPlace s
+  pub may-read : (s : Operand) → Holds (directRead (reading s)) → Holds (pointedRead C a (reading s)) → Allowed anyPlace s
   may-read (Register x) m t = (m, tt)
   may-read (Indirect p o) m t = t
   may-read (Immediate n) m t = tt

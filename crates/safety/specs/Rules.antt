@@ -72,6 +72,55 @@ pub data Change : Type 0 where
   unchanged : Change
   changed : NewValue → Change
 
+abbrev pub mapped : ℕ → Formula
+mapped x = test (mappedOf x)
+
+abbrev pub directRead : Access → Formula
+directRead Access.Nothing = always
+directRead (Access.Register x) = mapped (x .0)
+directRead (Access.Pointed p o) = always
+
+-- depth as the instruction makes it
+abbrev pub depthAfter : StackEffect → ℕ → ℕ
+depthAfter Same d = d
+depthAfter Push d = d + 1
+depthAfter Pop d = d - 1
+depthAfter (Load n) d = 0
+
+-- a rule on each edge: behind the instruction unless the condition always holds, to the jump's target unless it never does
+abbrev pub edges : Flow → ℕ → (Edge → Formula) → Formula
+edges (Step cc to) next rule =
+    (neg (eq cc 8) ⇒ rule (record { condition = cc; outcome = false; to = next }))
+    & (neg (eq cc 0) ⇒ rule (record { condition = cc; outcome = true; to = to .0 }))
+edges (Call to) next rule = always
+edges Return next rule = always
+edges InterruptReturn next rule = always
+edges Forbidden next rule = always
+
+-- a rule on a CALL's target
+abbrev pub calls : Flow → (ℕ → Formula) → Formula
+calls (Step cc to) rule = always
+calls (Call to) rule = rule (to .0)
+calls Return rule = always
+calls InterruptReturn rule = always
+calls Forbidden rule = always
+
+-- a rule on returns
+abbrev pub ends : Flow → Formula → Formula
+ends (Step cc to) rule = always
+ends (Call to) rule = always
+ends Return rule = rule
+ends InterruptReturn rule = rule
+ends Forbidden rule = always
+
+-- l to h holds every byte
+abbrev pub fullRange : ℕ → ℕ → Formula
+fullRange l h = eq l 0 & le 255 h
+
+abbrev pub isUnchanged : Change → Formula
+isUnchanged unchanged = always
+isUnchanged (changed v) = never
+
 module _ (C : Certificate) where
   -- the range of a cell at an address: its claim's, else 0 to 255 (asked of mapped cells alone: none is FFH)
   unfoldable pub low : ℕ → ℕ → ℕ
@@ -216,32 +265,6 @@ module _ (C : Certificate) where
   callTarget a t =
       lt t romLength & lt (C .routine a) (callee t) & eq (C .start (callee t)) t & eq (C .side (callee t)) (sideAt a)
 
-  -- a rule on each edge: behind the instruction unless the condition always holds, to the jump's target unless it never does
-  abbrev pub edges : Flow → ℕ → (Edge → Formula) → Formula
-  edges (Step cc to) next rule =
-      (neg (eq cc 8) ⇒ rule (record { condition = cc; outcome = false; to = next }))
-      & (neg (eq cc 0) ⇒ rule (record { condition = cc; outcome = true; to = to .0 }))
-  edges (Call to) next rule = always
-  edges Return next rule = always
-  edges InterruptReturn next rule = always
-  edges Forbidden next rule = always
-
-  -- a rule on a CALL's target
-  abbrev pub calls : Flow → (ℕ → Formula) → Formula
-  calls (Step cc to) rule = always
-  calls (Call to) rule = rule (to .0)
-  calls Return rule = always
-  calls InterruptReturn rule = always
-  calls Forbidden rule = always
-
-  -- a rule on returns
-  abbrev pub ends : Flow → Formula → Formula
-  ends (Step cc to) rule = always
-  ends (Call to) rule = always
-  ends Return rule = rule
-  ends InterruptReturn rule = rule
-  ends Forbidden rule = always
-
   unfoldable pub rule21 : ℕ → Summary → ℕ → Formula
   rule21 a S next =
       rule22 a S
@@ -252,14 +275,6 @@ module _ (C : Certificate) where
   -- the class includes the side, and the routine is not above the writer limit
   unfoldable pub writable : ℕ → ℕ → Formula
   writable a x = (eq (C .class x) (sideAt a) ‖ eq (C .class x) 3) & le (C .routine a) (C .limit x)
-
-  abbrev pub mapped : ℕ → Formula
-  mapped x = test (mappedOf x)
-
-  abbrev pub directRead : Access → Formula
-  directRead Access.Nothing = always
-  directRead (Access.Register x) = mapped (x .0)
-  directRead (Access.Pointed p o) = always
 
   abbrev pub directWrite : ℕ → Write → Formula
   directWrite a Write.Nothing = always
@@ -313,13 +328,6 @@ module _ (C : Certificate) where
 
   abbrev pub loaded : ℕ → Formula
   loaded a = neg (eq (C .depth a) unloaded)
-
-  -- depth as the instruction makes it
-  abbrev pub depthAfter : StackEffect → ℕ → ℕ
-  depthAfter Same d = d
-  depthAfter Push d = d + 1
-  depthAfter Pop d = d - 1
-  depthAfter (Load n) d = 0
 
   -- at depth 255 PUSH, POP; POP at 0; depth after PUSH above own need
   abbrev pub stackRule : ℕ → StackEffect → Formula
@@ -376,10 +384,6 @@ module _ (C : Certificate) where
   unfoldable pub feasible : ℕ → Edge → Formula
   feasible a e = claimed a (C .compareCell a) ⇒ neg (forallBelow 256 (λ v. neg (left a e (C .compareCell a) v)))
 
-  -- l to h holds every byte
-  abbrev pub fullRange : ℕ → ℕ → Formula
-  fullRange l h = eq l 0 & le 255 h
-
   -- the range l to h follows for cell x
   abbrev pub follows : ℕ → Edge → Change → ℕ → ℕ → ℕ → Formula
   follows a e unchanged x l h = forallBelow 256 (λ v. left a e x v ⇒ le l v & le v h)
@@ -399,10 +403,6 @@ module _ (C : Certificate) where
   claimsFollow a e w =
       claimFollows a e w (C .firstCell (e .to)) (C .firstLow (e .to)) (C .firstHigh (e .to))
       & claimFollows a e w (C .secondCell (e .to)) (C .secondLow (e .to)) (C .secondHigh (e .to))
-
-  abbrev pub isUnchanged : Change → Formula
-  isUnchanged unchanged = always
-  isUnchanged (changed v) = never
 
   -- from its own CP, or from the same compare over an instruction that changes no flag and cannot write its cell
   abbrev pub flagsFollow : ℕ → Write → FlagEffect → ℕ → Formula

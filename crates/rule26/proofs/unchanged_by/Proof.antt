@@ -24,14 +24,14 @@ returns c =
     let g = c .before .before .before .before .args in
     let C = certificateOf (g .cert .now) in
     let a = g .a .0 in
-    ap (λ (t : rules.Change). decide (isUnchanged C t)) (sym (ap changeIn (c .enum-told .given .1)) ∙ c .before .before .change-of .ensures)
+    ap (λ (t : rules.Change). decide (isUnchanged t)) (sym (ap changeIn (c .enum-told .given .1)) ∙ c .before .before .change-of .ensures)
 
 returns-2 : tie.Need-returns-2
 returns-2 c =
     let g = c .before .before .before .before .args in
     let C = certificateOf (g .cert .now) in
     let a = g .a .0 in
-    ap (λ (t : rules.Change). decide (isUnchanged C t)) (sym (ap changeIn (c .enum-told2 .given .1)) ∙ c .before .before .change-of .ensures)
+    ap (λ (t : rules.Change). decide (isUnchanged t)) (sym (ap changeIn (c .enum-told2 .given .1)) ∙ c .before .before .change-of .ensures)
 
 pub unchanged-by-spec : {M : Type 1} → statement M
 unchanged-by-spec = tie.close (tie.spec change-of-requires enum-told enum-told-2 returns returns-2)
