@@ -19,7 +19,7 @@ use Rattle.isa.specs.declared.Unary.the-variants.{Dec, Rlc, Inc, Com, Rl, Clr, 
 use Rattle.alu.specs.declared.FlagUpdate.{FlagUpdate}
 use Rattle.alu.specs.declared.FlagUpdate.the-variants.{Unchanged, Carry, Result, CarryResult}
 use Rattle.alu.specs.Flags.{carry, zeroFlag, signFlag, overflowFlag, flagsByte, update, conditionOn, condition}
-use Rattle.alu.specs.Operations.{operate, addition, subtraction, logical, biased, overflows, modify, increment, decrement, rotation, shiftRight, compareFlags}
+use Rattle.alu.specs.Operations.{operate, addition, subtraction, logical, modify, increment, decrement, rotation, shiftRight, compareFlags}
 
 -- a test of four flags that holds at all 16 settings, which antt computes, holds at each
 abbrev both : (Bool → Bool) → Bool
@@ -54,39 +54,14 @@ same-bool true false e = sym e
 same-bool false true e = e
 same-bool false false e = refl
 
--- the four flags of a FLAGS byte
-pub record Setting : Type 0 where
-  pub c : Bool
-  pub z : Bool
-  pub s : Bool
-  pub v : Bool
+-- a FLAGS byte holds C and Z, is a byte, and has 0 in bits 3 to 0
+byte-carry : (c z s v : Bool) → carry (flagsByte c z s v) ≡ c
+unfolding carry flagsByte
+byte-carry c z s v = same-bool _ _ (at-setting (λ c z s v. Bool·beq (carry (flagsByte c z s v)) c) refl c z s v)
 
-abbrev pub setting : Bool → Bool → Bool → Bool → Setting
-setting c z s v = record { c = c; z = z; s = s; v = v }
-
-abbrev pub settingOf : ℕ → Setting
-settingOf f = setting (carry f) (zeroFlag f) (signFlag f) (overflowFlag f)
-
-abbrev sameSetting : Setting → Setting → Bool
-sameSetting a b = Bool·beq (a .c) (b .c) && (Bool·beq (a .z) (b .z) && (Bool·beq (a .s) (b .s) && Bool·beq (a .v) (b .v)))
-
-same-setting : (a b : Setting) → sameSetting a b ≡ true → a ≡ b
-same-setting a b e =
-    let e1 = and-second (Bool·beq (a .c) (b .c)) _ e in
-    let e2 = and-second (Bool·beq (a .z) (b .z)) _ e1 in
-    let hc : a .c ≡ b .c = same-bool _ _ (and-first _ _ e) in
-    let hz : a .z ≡ b .z = same-bool _ _ (and-first _ _ e1) in
-    let hs : a .s ≡ b .s = same-bool _ _ (and-first _ _ e2) in
-    let hv : a .v ≡ b .v = same-bool _ _ (and-second (Bool·beq (a .s) (b .s)) _ e2) in
-    let joined : setting (a .c) (a .z) (a .s) (a .v) ≡ setting (b .c) (b .z) (b .s) (b .v) = rw (hc, hz, hs, hv) in
-    joined
-
--- the byte of a setting holds it, is a byte, and has 0 in bits 3 to 0
-setting-byte : (c z s v : Bool) → settingOf (flagsByte c z s v) ≡ setting c z s v
-unfolding carry zeroFlag signFlag overflowFlag flagsByte
-setting-byte c z s v =
-    same-setting _ _
-    (at-setting (λ c z s v. sameSetting (settingOf (flagsByte c z s v)) (setting c z s v)) refl c z s v)
+byte-zero : (c z s v : Bool) → zeroFlag (flagsByte c z s v) ≡ z
+unfolding zeroFlag flagsByte
+byte-zero c z s v = same-bool _ _ (at-setting (λ c z s v. Bool·beq (zeroFlag (flagsByte c z s v)) z) refl c z s v)
 
 byte-bound : (c z s v : Bool) → flagsByte c z s v < 256
 unfolding flagsByte
@@ -96,32 +71,7 @@ byte-low : (c z s v : Bool) → flagsByte c z s v % 16 ≡ 0
 unfolding flagsByte
 byte-low c z s v = eqb-true _ _ (at-setting (λ c z s v. eqb (flagsByte c z s v % 16) 0) refl c z s v)
 
--- the flags that an operation names, over those before it
-abbrev pub after : FlagUpdate → Setting → Setting
-after Unchanged o = o
-after (Carry c) o = setting c (o .z) (o .s) (o .v)
-after (Result z s v) o = setting (o .c) z s v
-after (CarryResult c z s v) o = setting c z s v
-
-pub update-setting : (f : ℕ) (u : FlagUpdate) → settingOf (update f u) ≡ after u (settingOf f)
-unfolding update
-update-setting f Unchanged = refl
-update-setting f (Carry c) = setting-byte c (zeroFlag f) (signFlag f) (overflowFlag f)
-update-setting f (Result z s v) = setting-byte (carry f) z s v
-update-setting f (CarryResult c z s v) = setting-byte c z s v
-
-pub update-carry : (f : ℕ) (u : FlagUpdate) → carry (update f u) ≡ after u (settingOf f) .c
-update-carry f u = ap (λ (w : Setting). w .c) (update-setting f u)
-
-pub update-zero : (f : ℕ) (u : FlagUpdate) → zeroFlag (update f u) ≡ after u (settingOf f) .z
-update-zero f u = ap (λ (w : Setting). w .z) (update-setting f u)
-
-pub update-sign : (f : ℕ) (u : FlagUpdate) → signFlag (update f u) ≡ after u (settingOf f) .s
-update-sign f u = ap (λ (w : Setting). w .s) (update-setting f u)
-
-pub update-overflow : (f : ℕ) (u : FlagUpdate) → overflowFlag (update f u) ≡ after u (settingOf f) .v
-update-overflow f u = ap (λ (w : Setting). w .v) (update-setting f u)
-
+-- FLAGS stays a byte; an operation that names a flag leaves 0 in bits 3 to 0
 pub update-bound : (f : ℕ) (u : FlagUpdate) → f < 256 → update f u < 256
 unfolding update
 update-bound f Unchanged h = h
@@ -169,8 +119,8 @@ unfolding compareFlags operate subtraction update
 compare-leaves f v k c = refl
 
 pub compare-carry : (v k : ℕ) → carry (compareFlags v k) ≡ ltb v k
-unfolding compareFlags operate subtraction
-compare-carry v k = update-carry 0 (operate Cp v k false .flags) ∙ ap (ltb v) (add-zero k)
+unfolding compareFlags operate subtraction update
+compare-carry v k = byte-carry _ _ _ _ ∙ ap (ltb v) (add-zero k)
 
 difference-zero : (v k : ℕ) → v < 256 → k < 256 → eqb ((v + 512 - (k + 0)) % 256) 0 ≡ eqb v k
 difference-zero v k hv hk =
@@ -180,8 +130,8 @@ difference-zero v k hv hk =
     (same? v k)
 
 pub compare-zero : (v k : ℕ) → v < 256 → k < 256 → zeroFlag (compareFlags v k) ≡ eqb v k
-unfolding compareFlags operate subtraction
-compare-zero v k hv hk = update-zero 0 (operate Cp v k false .flags) ∙ difference-zero v k hv hk
+unfolding compareFlags operate subtraction update
+compare-zero v k hv hk = byte-zero _ _ _ _ ∙ difference-zero v k hv hk
 
 not-le : (a b : ℕ) → not (leb a b) ≡ ltb b a
 not-le a b = ⊎-elim (λ (h : a ≤ b). rw (le-leb a b h, le-ltb b a h)) (λ (h : b < a). rw (lt-leb a b h, lt-ltb b a h)) (le? a b)
@@ -253,34 +203,7 @@ modify-bound Rrc x c h = omega (arith, pick-bound c 128)
 modify-bound Sra x c h = omega arith
 modify-bound Rr x c h = omega arith
 
--- the ranges that the checker relies on
-pub and-destination : (x y : ℕ) (c : Bool) → operate And x y c .value ≤ x
-unfolding operate logical
-and-destination x y c = and-le-l x y
-
+-- AND leaves no more than its source
 pub and-source : (x y : ℕ) (c : Bool) → operate And x y c .value ≤ y
 unfolding operate logical
 and-source x y c = and-le-r x y
-
-pub increment-value : (x : ℕ) (c : Bool) → x < 255 → modify Inc x c .value ≡ x + 1
-unfolding modify increment
-increment-value x c h = omega arith
-
-pub decrement-value : (x : ℕ) (c : Bool) → 0 < x → x < 256 → modify Dec x c .value ≡ x - 1
-unfolding modify decrement
-decrement-value x c l h = omega arith
-
-pub clear-value : (x : ℕ) (c : Bool) → modify Clr x c .value ≡ 0
-unfolding modify
-clear-value x c = refl
-
--- V of INC and DEC, which their pages give by value, is the overflow of x + 1 and x - 1
-pub increment-overflow : (x : ℕ) → x < 256 → eqb x 127 ≡ overflows (biased x + biased 1)
-unfolding biased overflows
-increment-overflow x h =
-    same-bool _ _ (sound (forallBelow 256 (λ x. test (Bool·beq (eqb x 127) (overflows (biased x + biased 1))))) tt x h)
-
-pub decrement-overflow : (x : ℕ) → x < 256 → eqb x 128 ≡ overflows (biased x + 256 - biased 1)
-unfolding biased overflows
-decrement-overflow x h =
-    same-bool _ _ (sound (forallBelow 256 (λ x. test (Bool·beq (eqb x 128) (overflows (biased x + 256 - biased 1))))) tt x h)

@@ -1,4 +1,4 @@
--- A number as an address of the register file, or of program memory; an address with an offset.
+-- A number as an address of the register file, or of program memory; the registers that definitions name; an address with an offset.
 -- Assumes nothing.
 use Prim.Native.Nat.{ℕ, _+_, _%_}
 use lib.Dec.{ltb}
@@ -11,6 +11,19 @@ regAddr a = record { 0 = a }
 
 abbrev pub romAddr : ℕ → RomAddr
 romAddr a = record { 0 = a }
+
+-- the cells of FLAGS, SP, SYM and STOPCON
+abbrev pub flagsCell : ℕ
+flagsCell = 0xD5
+
+abbrev pub spCell : ℕ
+spCell = 0xD9
+
+abbrev pub symCell : ℕ
+symCell = 0xDF
+
+abbrev pub stopconCell : ℕ
+stopconCell = 0xF4
 
 -- a word with an offset of -128 to 127, modulo 65536
 abbrev pub displaced : ℕ → ℕ → ℕ

@@ -1,10 +1,10 @@
 -- Laws of AND and OR that the library does not have.
 -- Assumes nothing.
-use mathlib.Core.Path.{_≡_, _∙_, refl, sym, ap}
-use Prim.Native.Nat.{ℕ, zero, suc, _+_, _*_, _%_, _/_, _<_, _≤_, min, max}
+use mathlib.Core.Path.{_≡_, _∙_}
+use Prim.Native.Nat.{ℕ, zero, suc, _%_, _/_, _<_, _≤_, min, max}
 use native.Mathlib.Omega.{arith}
 use native.Mathlib.Nat.{le-refl}
-use lib.Bits.{bitAnd, bitOr, and-step, or-step, and-self, and-mask}
+use lib.Bits.{bitAnd, bitOr, and-step, or-step, and-mask}
 
 -- half of a result, and its lowest bit
 and-half : (a b : ℕ) → bitAnd a b / 2 ≡ bitAnd (a / 2) (b / 2)
@@ -56,10 +56,6 @@ and-or-below (suc n) a b c h =
 
 pub and-or : (a b c : ℕ) → bitAnd (bitOr a b) c ≡ bitOr (bitAnd a c) (bitAnd b c)
 and-or a b c = and-or-below a a b c (le-refl a)
-
--- a mask applied twice
-pub and-twice : (x m : ℕ) → bitAnd (bitAnd x m) m ≡ bitAnd x m
-and-twice x m = and-assoc x m m ∙ ap (λ (y : ℕ). bitAnd x y) (and-self m)
 
 -- all eight bits of a byte
 pub and-byte : (x : ℕ) → x < 256 → bitAnd x 0xFF ≡ x

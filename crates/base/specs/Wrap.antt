@@ -12,6 +12,3 @@ wrap-sub-two-8 a b k ha hb hk = omega arith
 
 pub wrap-down-8 : (x r : ℕ) → r < 256 → (r + 1) % 256 ≡ x → r ≡ (x + 255) % 256
 wrap-down-8 x r hr e = omega arith
-
-pub wrap-sub-16 : (a b r : ℕ) → a < 65536 → b < 65536 → r < 65536 → (r + b) % 65536 ≡ a → r ≡ (a + 65536 - b) % 65536
-wrap-sub-16 a b r ha hb hr e = omega arith

@@ -1,5 +1,5 @@
-// The two address spaces of the chip, an address with an offset, the lengths of image, certificate and record, and a slice's byte. A register
-// address never stands where a program address is meant.
+// The two address spaces of the chip, the registers that code names, an address with an offset, the lengths of image, certificate and record,
+// and a slice's byte. A register address never stands where a program address is meant.
 ghost use mathlib.Core.Path.{_≡_};
 ghost use lib.ListN.{getD};
 ghost use Rattle.base.specs.Addresses.{displaced};
@@ -10,6 +10,22 @@ pub struct RegAddr(pub u8);
 
 // An address of program memory.
 pub struct RomAddr(pub u16);
+
+// The addresses of FLAGS, SP and SYM (interrupt enable).
+pub const FLAGS: u8 = 0xD5;
+
+pub const SP: u8 = 0xD9;
+
+pub const SYM: u8 = 0xDF;
+
+// The places of FLAGS, SP, SYM and STOPCON in the register file.
+pub const FLAGS_INDEX: usize = FLAGS as usize;
+
+pub const SP_INDEX: usize = SP as usize;
+
+pub const SYM_INDEX: usize = SYM as usize;
+
+pub const STOPCON_INDEX: usize = 0xF4;
 
 // The bytes of an image, and the first address behind ROM.
 pub const IMAGE_LENGTH: usize = 4096;

@@ -1,9 +1,21 @@
-// Prints the names of an image file and a certificate file and their judgement, for each case.
+// Prints the names of an image file and a certificate file and their judgement, for each case; at the end the judgement of two texts.
 use hex_write::Written;
 use libc::STDOUT_FILENO;
 
 fn print(text: &[u8]) {
     io::write_all(STDOUT_FILENO, text);
+}
+
+// Prints what was written at the front of a buffer.
+fn print_written(written: Written, out: &[u8]) {
+    match written {
+        Written::Bytes(n) => {
+            if n <= out.len() {
+                print(&out[..n]);
+            }
+        }
+        Written::WrongLength => {}
+    }
 }
 
 fn example(image_name: &[u8], certificate_name: &[u8]) {
@@ -12,12 +24,27 @@ fn example(image_name: &[u8], certificate_name: &[u8]) {
     print(certificate_name);
     print(b"\n");
     let mut out = [0u8; 1143];
-    match files::judge_files(image_name, certificate_name, &mut out) {
-        Written::Bytes(n) => {
-            print(&out[..n]);
-        }
-        Written::WrongLength => {}
-    }
+    let written = files::judge_files(image_name, certificate_name, &mut out);
+    print_written(written, &out);
+}
+
+// Fills a buffer from a file.
+fn read_whole(name: &[u8], text: &mut [u8]) {
+    let fd = os::open_read(name);
+    io::read_full(fd, text);
+    libc::close(fd);
+}
+
+// The same of two texts in memory, which are as long as the files of image P.
+fn example_of_texts() {
+    let mut image = [0u8; 188];
+    let mut certificate = [0u8; 952];
+    read_whole(b"p_image.hex", &mut image);
+    read_whole(b"p_cert.hex", &mut certificate);
+    print(b"two texts\n");
+    let mut out = [0u8; 1143];
+    let written = judge_texts::judge_texts(&image, &certificate, &mut out);
+    print_written(written, &out);
 }
 
 // Too short a buffer: 7.
@@ -76,4 +103,5 @@ fn main() {
     absent_examples();
     refused_examples();
     other_examples();
+    example_of_texts();
 }

@@ -1,12 +1,10 @@
 -- The effect summary of an action: what it may store, read and change, and where control goes. The checker's rules read nothing else of an
 -- instruction but its cost and the address behind it; `safety` proves each action against its summary.
 -- Assumes nothing.
-use Prim.Native.Nat.{ℕ, _+_, _-_}
+use Prim.Native.Nat.{_-_}
 use mathlib.Core.Bool.{Bool, true, false}
 use lib.Dec.{eqb, ltb}
-use Rattle.base.specs.declared.RegAddr.{RegAddr}
-use Rattle.base.specs.declared.RomAddr.{RomAddr}
-use Rattle.base.specs.Addresses.{romAddr}
+use Rattle.base.specs.Addresses.{romAddr, spCell}
 use Rattle.base.specs.Choice.{pick}
 use Rattle.isa.specs.declared.Alu.{Alu}
 use Rattle.isa.specs.declared.Alu.the-variants.{Add, Adc, Sub, Sbc, Or, And, Tcm, Tm, Cp, Xor}
@@ -146,15 +144,10 @@ modifyFlags Rrc = Changed
 modifyFlags Sra = Changed
 modifyFlags Rr = Changed
 
-abbrev pub loadValue : Operand → NewValue
-loadValue (Operand.Register a) = CopyOf a
-loadValue (Operand.Indirect p x) = Unknown
-loadValue (Operand.Immediate n) = Number n
-
 -- LD; of SP with a number: the stack pointer is loaded
 abbrev pub loadSummary : Operand → Operand → Summary
 loadSummary (Operand.Register a) (Operand.Immediate n) =
-    pick (eqb (a .0) 0xD9) (moving Write.Nothing Access.Nothing Access.Nothing Kept (Load n))
+    pick (eqb (a .0) spCell) (moving Write.Nothing Access.Nothing Access.Nothing Kept (Load n))
     (moving (Write.Register a (Number n)) Access.Nothing Access.Nothing Kept Same)
 loadSummary (Operand.Register a) (Operand.Register b) = moving (Write.Register a (CopyOf b)) Access.Nothing (Access.Register b) Kept Same
 loadSummary (Operand.Register a) (Operand.Indirect p x) = moving (Write.Register a Unknown) Access.Nothing (Access.Pointed p x) Kept Same

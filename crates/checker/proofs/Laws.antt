@@ -1,20 +1,26 @@
 -- The ways of the verdict: a rule that holds or is broken, an address that goes on or stops, the tests before the scan.
 -- Assumes nothing.
 use Prim.Native.Nat.{ℕ, suc, _+_, _-_, _<_}
-use mathlib.Core.Path.{_≡_, refl, ap, _∙_}
+use mathlib.Core.Path.{_≡_, refl, sym, ap, _∙_}
 use mathlib.Core.Bool.{true, false}
 use mathlib.Core.List.{List}
 use native.Mathlib.Omega.{arith}
-use lib.ListN.{length}
+use lib.ListN.{length, getD}
 use borrow.Author.Tests.{eq-eqb, ne-eqb}
+use Rattle.base.specs.declared.RomAddr.{RomAddr}
 use Rattle.base.specs.Addresses.{romAddr}
 use Rattle.base.specs.Formula.{decide}
 use Rattle.base.specs.Lengths.{romLength, isImageLength, isCertificateLength}
 use Rattle.certificate.specs.declared.Summary.{Summary}
-use Rattle.certificate.specs.declared.Verdict.the-variants.{Refused}
+use Rattle.certificate.specs.declared.Verdict.{Verdict}
+use Rattle.certificate.specs.declared.Verdict.the-variants.{Accepted, Refused}
 use Rattle.certificate.specs.Layout.{Certificate, certificateOf}
 use Rattle.safety.specs.Rules.{rule20, rule21, rule22, rule23, rule24, rule25, rule26, rule27}
-use Rattle.safety.specs.Verdicts.{rulesOn, firstBroken, numberAt, scan, verdictOn, verdictOf}
+use Rattle.safety.specs.Verdicts.{rulesOn, firstBroken, numberAt, scan, verdictOn, verdictOf, Exact}
+use Rattle.safety.specs.Statement.{Demand3}
+use Rattle.safety.specs.Accepted.{never-refused}
+use Rattle.safety.specs.Exact.{exact}
+use Rattle.safety.specs.Theorem.{demand3}
 use Rattle.checker.specs.declared.Holding.{Holding}
 use Rattle.checker.specs.Located.{tested}
 
@@ -66,3 +72,16 @@ pub first-by-value : (C : Certificate) (a : ℕ) (S : Summary) (next cost : ℕ)
     → firstBroken (tested (holdingOf C a S next cost)) ≡ firstBroken (rulesOn C a S next cost)
 unfolding tested rulesOn firstBroken
 first-by-value C a S next cost = refl
+
+-- what `check` promises of a verdict
+abbrev Promised : List ℕ → List ℕ → Verdict → Type 0
+Promised image cert v =
+    (v ≡ verdictOf image cert) × (Exact image cert v × (v ≡ Accepted → Demand3 (certificateOf cert) image))
+
+module _ (image cert : List ℕ) where
+  -- a refusal promises nothing of runs
+  pub refusal : (n : ℕ) (a : RomAddr) → Refused n a ≡ verdictOf image cert → Promised image cert (Refused n a)
+  refusal n a e = (e, (rw e (exact image cert), λ h. absurd (never-refused n a h)))
+
+  pub verdict : (v : Verdict) → ((i : ℕ) → getD image i 0 < 256) → ((i : ℕ) → getD cert i 0 < 256) → v ≡ verdictOf image cert → Promised image cert v
+  verdict v imageBytes certBytes e = (e, (rw e (exact image cert), λ h. demand3 image cert imageBytes certBytes (sym e ∙ h)))

@@ -1,6 +1,7 @@
 -- An instruction with its summary and the address behind it, and the rules by their values, as the checker's code holds them.
 -- Assumes nothing.
 use Prim.Native.Nat.{ℕ, _+_, _%_}
+use mathlib.Core.Bool.{Bool, true, false}
 use mathlib.Core.List.{List, [], _∷_}
 use Rattle.base.specs.Addresses.{romAddr}
 use Rattle.base.specs.Outcome.{Outcome}
@@ -29,3 +30,7 @@ tested h =
     ∷ record { number = 26; formula = test (h .rule26) }
     ∷ record { number = 27; formula = test (h .rule27) }
     ∷ []
+
+-- the number of a rule that does not hold, else that of the rules behind it
+abbrev pub numberUnless : Bool → ℕ → ℕ → ℕ
+numberUnless holds number behind = elim holds [ true ↦ behind | false ↦ number ]

@@ -3,9 +3,8 @@ ghost use mathlib.Core.Path.{_≡_};
 ghost use Rattle.base.specs.Lengths.{romLength};
 ghost use Rattle.base.specs.Outcome.Outcome.{refused};
 ghost use Rattle.certificate.specs.Layout.{certificateOf};
-ghost use Rattle.safety.specs.Verdicts.{costAt, rulesOn, rulesAt, firstBroken, numberAt, scan, verdictOf};
-ghost use Rattle.checker.specs.Answer.{answered};
-ghost use Rattle.checker.specs.Located.{locatedIn, locatedAt, tested};
+ghost use Rattle.safety.specs.Verdicts.{costAt, rulesOn, rulesAt, firstBroken, numberAt, scan, verdictOf, Exact};
+ghost use Rattle.checker.specs.Located.{locatedIn, locatedAt, tested, numberUnless};
 ghost use Rattle.certificate.specs.declared.Verdict.the-variants.{Accepted};
 ghost use Rattle.safety.specs.Statement.{Demand3};
 use base::RomAddr;
@@ -66,32 +65,24 @@ struct Holding {
     rule27: bool,
 }
 
+// The number of a rule that does not hold, else that of the rules behind it.
+fn unless(holds: bool, number: u8, behind: u8) -> u8
+    ensures { λ r. ⌜ r ≡ numberUnless holds number behind ⌝ }
+{
+    if holds { behind } else { number }
+}
+
 // The lowest number of a rule that does not hold, or 0.
 fn lowest(h: Holding) -> u8
     ensures { λ r. ⌜ r ≡ firstBroken (tested h) ⌝ }
 {
-    if !h.rule21 {
-        return 21;
-    }
-    if !h.rule22 {
-        return 22;
-    }
-    if !h.rule23 {
-        return 23;
-    }
-    if !h.rule24 {
-        return 24;
-    }
-    if !h.rule25 {
-        return 25;
-    }
-    if !h.rule26 {
-        return 26;
-    }
-    if !h.rule27 {
-        return 27;
-    }
-    0
+    let from27 = unless(h.rule27, 27, 0);
+    let from26 = unless(h.rule26, 26, from27);
+    let from25 = unless(h.rule25, 25, from26);
+    let from24 = unless(h.rule24, 24, from25);
+    let from23 = unless(h.rule23, 23, from24);
+    let from22 = unless(h.rule22, 22, from23);
+    unless(h.rule21, 21, from22)
 }
 
 // The lowest number of a rule that is broken at a, or 0.
@@ -102,8 +93,8 @@ fn first_broken(cert: &[u8], a: RomAddr, s: Summary, cost: u8, next: RomAddr) ->
         rule21: rules::rule21(cert, a, s, next),
         rule22: rules::rule22(cert, a, s),
         rule23: rules::rule23(cert, a, s),
-        rule24: rules::rule24(cert, a, s),
-        rule25: rules::rule25(cert, a, s, next),
+        rule24: rule24::rule24(cert, a, s),
+        rule25: rule25::rule25(cert, a, s, next),
         rule26: rule26::rule26(cert, a, s, next),
         rule27: rule27::rule27(cert, a, s, cost, next),
     })
@@ -144,11 +135,11 @@ fn first_refusal(image: &[u8], cert: &[u8]) -> Verdict
     Verdict::Accepted
 }
 
-// The verdict on an image and a certificate: accepted, or the number and the address of the first broken rule. What is accepted is safe on
-// every run from reset, under every schedule (demand 3).
+// The verdict on an image and a certificate: accepted exactly when no rule is broken, else the number and the address of the first broken rule
+// (demand 2). What is accepted is safe on every run from reset, under every schedule (demand 3).
 pub fn check(image: &[u8], cert: &[u8]) -> Verdict
     ensures verdict { λ r. ⌜ r ≡ verdictOf (now (image .entry)) (now (cert .entry)) ⌝ }
-    ensures answer { λ r. ⌜ answered r ≡ answered (verdictOf (now (image .entry)) (now (cert .entry))) ⌝ }
+    ensures exact { λ r. ⌜ Exact (now (image .entry)) (now (cert .entry)) r ⌝ }
     ensures safe { λ r. ⌜ (r ≡ Accepted → Demand3 (certificateOf (now (cert .entry))) (now (image .entry))) ⌝ }
 {
     if !base::is_image_length(image.len()) {

@@ -2,20 +2,21 @@
 -- Assumes nothing.
 use Prim.Native.Nat.{ℕ, _%_, _/_}
 use mathlib.Core.List.{List}
-use mathlib.Core.Bool.{Bool, true, false, _||_}
+use mathlib.Core.Bool.{Bool, _||_}
 use lib.ListN.{getD, set}
 use lib.Dec.{eqb}
 use lib.Bits.{bitOr}
+use Rattle.base.specs.Addresses.{symCell}
 use Rattle.base.specs.Choice.{pick}
 use Rattle.chip.specs.Registers.{storeOf}
 
 -- SYM.2
 unfoldable pub interruptsEnabled : List ℕ → Bool
-interruptsEnabled regs = eqb (getD regs 0xDF 0 / 4 % 2) 1
+interruptsEnabled regs = eqb (getD regs symCell 0 / 4 % 2) 1
 
 -- SYM.2 becomes on: a write of SYM's one kept bit
 unfoldable pub setInterruptsOf : List ℕ → Bool → List ℕ
-setInterruptsOf regs on = storeOf regs 0xDF (pick on 0x04 0x00)
+setInterruptsOf regs on = storeOf regs symCell (pick on 0x04 0x00)
 
 -- an external source is enabled and pending: E8.1 with E8.0, E8.3 with E8.2
 unfoldable pub pendingEdge : List ℕ → Bool

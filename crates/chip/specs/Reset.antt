@@ -5,7 +5,7 @@ use mathlib.Core.List.{List, [], _∷_}
 use lib.ListN.{replicate, set}
 
 -- Table 8-1, each row of a mapped register but FLAGS (D5H) and SP (D9H), whose bits it leaves open. A bit that is not used ('-'), and a bit of
--- F8H and F9H that is open ('x': both read the schedule record, never this byte), is 0 here.
+-- F8H and F9H that is open ('x'), is 0 here.
 abbrev pub resetRows : List (ℕ × ℕ)
 resetRows =
     (0xD0, 0x00) ∷ (0xD1, 0xFF) ∷ (0xD2, 0x00) ∷ (0xD4, 0x00) ∷ (0xDB, 0x00) ∷ (0xDC, 0x00) ∷ (0xDD, 0x00) ∷ (0xDE, 0x00)

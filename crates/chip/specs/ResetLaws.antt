@@ -5,14 +5,11 @@ use mathlib.Core.Bool.{false}
 use mathlib.Core.List.{List, [], _∷_}
 use Prim.Native.Nat.{ℕ, _<_}
 use native.Mathlib.Omega.{arith}
-use lib.Bits.{bitAnd}
 use lib.ListN.{length, set, replicate}
 use Rattle.base.specs.Cells.{Cells, Bytes, filled-cells, set-cells}
 use Rattle.base.specs.ChoiceLaws.{Each}
-use Rattle.chip.specs.Registers.{keptBits}
 use Rattle.chip.specs.Interrupts.{interruptsEnabled}
 use Rattle.chip.specs.Reset.{resetRows, storedOver, resetRegisters}
-use Rattle.chip.specs.Laws.{KeptOnly}
 
 stored-cells : (P : ℕ → ℕ → Type 0) (rows : List (ℕ × ℕ)) (regs : List ℕ) → Each P rows → Cells P regs → Cells P (storedOver rows regs)
 stored-cells P [] regs h c = c
@@ -27,12 +24,6 @@ unfolding resetRegisters
 reset-bytes =
     stored-cells (λ (k x : ℕ). x < 256) resetRows (replicate 256 0) (omega arith)
     (filled-cells (λ (k x : ℕ). x < 256) 256 0 (λ (k : ℕ). omega arith) (λ (k : ℕ). omega arith))
-
-pub reset-kept : KeptOnly resetRegisters
-unfolding resetRegisters keptBits
-reset-kept a _ =
-    let P : ℕ → ℕ → Type 0 = λ (k x : ℕ). bitAnd x (keptBits k) ≡ x in
-    stored-cells P resetRows (replicate 256 0) (omega arith) (filled-cells P 256 0 (λ (k : ℕ). refl) (λ (k : ℕ). refl)) a
 
 pub reset-enabled : interruptsEnabled resetRegisters ≡ false
 unfolding interruptsEnabled resetRegisters

@@ -2,7 +2,7 @@
 -- Assumes nothing.
 use Prim.Native.Nat.{ℕ}
 use mathlib.Core.List.{List, [], _∷_}
-use Rattle.base.specs.Choice.{pick, choose}
+use Rattle.base.specs.Choice.{choose}
 
 -- the kept bits of addresses 8 × k to 8 × k + 7, lowest address lowest
 abbrev pub keptWords : List (ℕ × ℕ)

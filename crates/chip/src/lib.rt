@@ -5,6 +5,10 @@ ghost use Rattle.chip.specs.Interrupts.{interruptsEnabled, setInterrupts
 ghost use Rattle.chip.specs.Reset.{resetRegisters};
 ghost use Rattle.chip.specs.Words.{keptWord};
 use base::RegAddr;
+use base::SYM_INDEX;
+
+// The register file: a byte for each address.
+pub type Registers = [u8; 256];
 
 // The inputs of a step: the bytes of its schedule record.
 pub type Inputs = [u8; base::RECORD_LENGTH];
@@ -44,7 +48,7 @@ fn kept_bits(n: u8) -> u8
 }
 
 // What a step with schedule record rec reads at a.
-pub fn load(regs: &[u8; 256], rec: &Inputs, a: RegAddr) -> u8
+pub fn load(regs: &Registers, rec: &Inputs, a: RegAddr) -> u8
     ensures { λ r. ⌜ r ≡ loadOf (now (regs .entry)) (now (rec .entry)) (a .0) ⌝ }
 {
     let n = a.0;
@@ -103,7 +107,7 @@ fn kept(a: RegAddr, old: u8, v: u8) -> u8
 }
 
 // Writes v at a.
-pub fn store(regs: &mut [u8; 256], a: RegAddr, v: u8)
+pub fn store(regs: &mut Registers, a: RegAddr, v: u8)
     ensures { λ _. ⌜ now (regs .exit) ≡ storeOf (now (regs .entry)) (a .0) v ⌝ }
 {
     let i = a.0 as usize;
@@ -112,39 +116,39 @@ pub fn store(regs: &mut [u8; 256], a: RegAddr, v: u8)
 }
 
 // The interrupt enable, SYM.2.
-pub fn interrupts_enabled(regs: &[u8; 256]) -> bool
+pub fn interrupts_enabled(regs: &Registers) -> bool
     ensures { λ r. ⌜ r ≡ interruptsEnabled (now (regs .entry)) ⌝ }
 {
-    regs[0xDF] / 4 % 2 == 1
+    regs[SYM_INDEX] / 4 % 2 == 1
 }
 
 // SYM.2 becomes on: EI, DI, interrupt entry, IRET.
-pub fn set_interrupts(regs: &mut [u8; 256], on: bool)
+pub fn set_interrupts(regs: &mut Registers, on: bool)
     ensures { λ _. ⌜ now (regs .exit) ≡ setInterruptsOf (now (regs .entry)) on ⌝ }
 {
     if on {
-        regs[0xDF] = 0x04;
+        regs[SYM_INDEX] = 0x04;
     } else {
-        regs[0xDF] = 0x00;
+        regs[SYM_INDEX] = 0x00;
     }
 }
 
 // An external source is enabled and pending.
-pub fn pending_edge(regs: &[u8; 256]) -> bool
+pub fn pending_edge(regs: &Registers) -> bool
     ensures { λ r. ⌜ r ≡ pendingEdge (now (regs .entry)) ⌝ }
 {
     (regs[0xE8] % 4 == 3) | (regs[0xE8] / 4 % 4 == 3)
 }
 
 // Any source is enabled and pending.
-pub fn pending_any(regs: &[u8; 256]) -> bool
+pub fn pending_any(regs: &Registers) -> bool
     ensures { λ r. ⌜ r ≡ pendingAny (now (regs .entry)) ⌝ }
 {
     (regs[0xD2] % 4 == 3) | (regs[0xF3] % 4 == 3) | pending_edge(regs)
 }
 
 // Sets the bits at a, if on.
-fn raise(regs: &mut [u8; 256], on: bool, a: RegAddr, bits: u8)
+fn raise(regs: &mut Registers, on: bool, a: RegAddr, bits: u8)
     ensures { λ _. ⌜ now (regs .exit) ≡ raiseOf (now (regs .entry)) on (a .0) bits ⌝ }
 {
     let i = a.0 as usize;
@@ -155,7 +159,7 @@ fn raise(regs: &mut [u8; 256], on: bool, a: RegAddr, bits: u8)
 }
 
 // The requests of a schedule record's byte 0.
-pub fn post(regs: &mut [u8; 256], requests: u8)
+pub fn post(regs: &mut Registers, requests: u8)
     ensures { λ _. ⌜ now (regs .exit) ≡ postOf (now (regs .entry)) requests ⌝ }
 {
     if requests == 0 {
@@ -168,8 +172,8 @@ pub fn post(regs: &mut [u8; 256], requests: u8)
     raise(regs, requests / 16 % 2 == 1, RegAddr(0xF7), 0x08);
 }
 
-// The registers at reset: table 8-1. RAM, FLAGS and SP, which it leaves open, are 0.
-pub fn reset_registers() -> [u8; 256]
+// The registers at reset: table 8-1. What it leaves open (RAM, SP, the kept bits of FLAGS, F8H and F9H) is 0.
+pub fn reset_registers() -> Registers
     ensures { λ r. ⌜ r ≡ resetRegisters ⌝ }
 {
     let mut regs = [0u8; 256];

@@ -2,7 +2,7 @@
 -- Assumes nothing.
 use mathlib.Core.Path.{_≡_, refl, _∙_}
 use mathlib.Core.Logic.{⊎-elim}
-use mathlib.Core.Bool.{Bool, true, false}
+use mathlib.Core.Bool.{true, false}
 use Rattle.base.specs.Formula.{Formula, Holds, decide, sound, of-true, decide-yes, decide-no, case-bool, decide-false}
 
 pub decide-same : (p q : Formula) → (Holds p → Holds q) → (Holds q → Holds p) → decide p ≡ decide q

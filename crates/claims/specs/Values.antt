@@ -3,24 +3,15 @@
 use Prim.Native.Nat.{ℕ, _+_}
 use mathlib.Core.Path.{sym}
 use mathlib.Core.Bool.{Bool, _&&_}
-use lib.Dec.{eqb, leb}
-use Rattle.base.specs.Choice.{pick}
+use lib.Dec.{leb}
 use Rattle.base.specs.Formula.{Formula, Holds, decide, decide-yes, sound, of-true, le, test, neg, _&_, _⇒_, forallBelow}
 use Rattle.certificate.specs.Layout.{Certificate}
 use Rattle.safety.specs.Rules as rules
 use Rattle.safety.specs.Rules.{meets, low, high, claimed, narrowed, left}
-use Rattle.entries.specs.declared.Entry.{Entry}
 use Rattle.claims.specs.declared.Edge.{Edge}
 use Rattle.claims.specs.declared.Values.{Values}
 use Rattle.claims.specs.declared.Change.{Change}
 use Rattle.claims.specs.declared.Change.the-variants.{Unchanged, Changed}
-
--- the range of a cell, by an entry's claims: as `low` and `high`
-unfoldable pub lowIn : Entry → ℕ → ℕ
-lowIn e x = pick (eqb x (e .first .cell .0)) (e .first .low) (pick (eqb x (e .second .cell .0)) (e .second .low) 0)
-
-unfoldable pub highIn : Entry → ℕ → ℕ
-highIn e x = pick (eqb x (e .first .cell .0)) (e .first .high) (pick (eqb x (e .second .cell .0)) (e .second .high) 255)
 
 abbrev pub edgeOf : Edge → rules.Edge
 edgeOf e = record { condition = e .condition; outcome = e .outcome; to = e .to .0 }

@@ -1,18 +1,21 @@
-// Ranges, values left on an edge, changes of cells and bounds: what several rules read of the certificate.
+// Ranges, values left on an edge, changes of cells and bounds: what several rules read of an entry. A contract over an entry n speaks of every
+// address, of any certificate, whose entry is n.
 ghost use mathlib.Core.Path.{_≡_};
-ghost use Prim.Native.Nat.{_-_};
+ghost use Prim.Native.Nat.{ℕ, _-_};
 ghost use mathlib.Core.Bool.{true, false};
 ghost use Rattle.base.specs.Choice.{pick};
 ghost use Rattle.base.specs.Formula.{decide};
-ghost use Rattle.certificate.specs.Layout.{certificateOf};
+ghost use Rattle.certificate.specs.Layout.{Certificate, certificateOf};
+ghost use Rattle.entries.specs.Fields.{entryOf};
 ghost use Rattle.safety.specs.Rules.{changeOf};
-ghost use Rattle.claims.specs.Values.{lowIn, highIn, edgeOf, among, noneAmong, staysWithin, allWithin, valuesOf, feasibleFor, changeIn, pointedAt};
+ghost use Rattle.claims.specs.Values.{edgeOf, among, noneAmong, staysWithin, allWithin, valuesOf, feasibleFor, changeIn, pointedAt};
 ghost use Rattle.claims.specs.Bounds.{distanceFrom, boundFrom, worstFrom};
 use base::RegAddr;
 use base::RomAddr;
 use certificate::NewValue;
 use certificate::Write;
 use entries::Entry;
+use entries::NO_CELL;
 
 // An edge of the control flow: its condition, whether it is the one on which the condition holds, and where it goes.
 pub struct Edge {
@@ -37,35 +40,42 @@ pub enum Change {
     Changed(NewValue),
 }
 
-// The range of a cell at an address: its claim's, else 0 to 255 (asked of mapped cells alone: none is FFH).
-fn low_in(e: Entry, x: RegAddr) -> u8
-    ensures { λ r. ⌜ r ≡ lowIn e (x .0) ⌝ }
+// The range of a cell by an entry: its claim's, else 0 to 255 (asked of mapped cells alone: none is FFH).
+pub fn low_in(n: Entry, x: RegAddr) -> u8
+    ensures { λ r. ⌜ ((C : Certificate) (a : ℕ) → n ≡ entryOf C a → r ≡ Rattle.safety.specs.Rules.low C a (x .0)) ⌝ }
 {
-    if x.0 == e.first.cell.0 {
-        return e.first.low;
+    if x.0 == n.first.cell.0 {
+        return n.first.low;
     }
-    if x.0 == e.second.cell.0 {
-        return e.second.low;
+    if x.0 == n.second.cell.0 {
+        return n.second.low;
     }
     0
 }
 
+pub fn high_in(n: Entry, x: RegAddr) -> u8
+    ensures { λ r. ⌜ ((C : Certificate) (a : ℕ) → n ≡ entryOf C a → r ≡ Rattle.safety.specs.Rules.high C a (x .0)) ⌝ }
+{
+    if x.0 == n.first.cell.0 {
+        return n.first.high;
+    }
+    if x.0 == n.second.cell.0 {
+        return n.second.high;
+    }
+    255
+}
+
+fn claimed_in(n: Entry, x: RegAddr) -> bool
+    ensures { λ r. ⌜ ((C : Certificate) (a : ℕ) → n ≡ entryOf C a → r ≡ decide (Rattle.safety.specs.Rules.claimed C a (x .0))) ⌝ }
+{
+    (x.0 != NO_CELL) & ((x.0 == n.first.cell.0) | (x.0 == n.second.cell.0))
+}
+
+// The same at an address.
 pub fn low(cert: &[u8], a: RomAddr, x: RegAddr) -> u8
     ensures { λ r. ⌜ r ≡ Rattle.safety.specs.Rules.low (certificateOf (now (cert .entry))) (a .0) (x .0) ⌝ }
 {
     low_in(entries::entry_of(entries::entry_part(cert, a)), x)
-}
-
-fn high_in(e: Entry, x: RegAddr) -> u8
-    ensures { λ r. ⌜ r ≡ highIn e (x .0) ⌝ }
-{
-    if x.0 == e.first.cell.0 {
-        return e.first.high;
-    }
-    if x.0 == e.second.cell.0 {
-        return e.second.high;
-    }
-    255
 }
 
 pub fn high(cert: &[u8], a: RomAddr, x: RegAddr) -> u8
@@ -77,16 +87,14 @@ pub fn high(cert: &[u8], a: RomAddr, x: RegAddr) -> u8
 pub fn claimed(cert: &[u8], a: RomAddr, x: RegAddr) -> bool
     ensures { λ r. ⌜ r ≡ decide (Rattle.safety.specs.Rules.claimed (certificateOf (now (cert .entry))) (a .0) (x .0)) ⌝ }
 {
-    let e = entries::entry_of(entries::entry_part(cert, a));
-    (x.0 != 255) & ((x.0 == e.first.cell.0) | (x.0 == e.second.cell.0))
+    claimed_in(entries::entry_of(entries::entry_part(cert, a)), x)
 }
 
 // The cell is compared, and claimed.
-fn narrowed(cert: &[u8], a: RomAddr, x: RegAddr) -> bool
-    ensures { λ r. ⌜ r ≡ decide (Rattle.safety.specs.Rules.narrowed (certificateOf (now (cert .entry))) (a .0) (x .0)) ⌝ }
+fn narrowed(n: Entry, x: RegAddr) -> bool
+    ensures { λ r. ⌜ ((C : Certificate) (a : ℕ) → n ≡ entryOf C a → r ≡ decide (Rattle.safety.specs.Rules.narrowed C a (x .0))) ⌝ }
 {
-    let e = entries::entry_of(entries::entry_part(cert, a));
-    (x.0 == e.compare.cell.0) & claimed(cert, a, x)
+    (x.0 == n.compare.cell.0) & claimed_in(n, x)
 }
 
 // Value v, compared with k, meets the condition. C, NC, Z, NZ, ULE and UGT are unsigned; any other condition says nothing.
@@ -136,15 +144,14 @@ pub fn has(s: Values, v: u8) -> bool
     (s.low <= v) & ((v <= s.high) & (!s.narrowed | met))
 }
 
-// The values of cell x that are left on an edge from a.
-pub fn values_left(cert: &[u8], a: RomAddr, e: Edge, x: RegAddr) -> Values
-    ensures { λ r. ⌜ r ≡ valuesOf (certificateOf (now (cert .entry))) (a .0) (edgeOf e) (x .0) ⌝ }
+// The values of cell x that are left on an edge from entry n.
+pub fn values_left(n: Entry, e: Edge, x: RegAddr) -> Values
+    ensures { λ r. ⌜ ((C : Certificate) (a : ℕ) → n ≡ entryOf C a → r ≡ valuesOf C a (edgeOf e) (x .0)) ⌝ }
 {
-    let n = entries::entry_of(entries::entry_part(cert, a));
     Values {
-        low: low(cert, a, x),
-        high: high(cert, a, x),
-        narrowed: narrowed(cert, a, x),
+        low: low_in(n, x),
+        high: high_in(n, x),
+        narrowed: narrowed(n, x),
         condition: e.condition,
         outcome: e.outcome,
         number: n.compare.number,
@@ -188,25 +195,24 @@ pub fn all_within(s: Values, l: u8, h: u8) -> bool
     true
 }
 
-// Some value of cell x, if it is claimed, is left on an edge from a.
-fn feasible_for(cert: &[u8], a: RomAddr, e: Edge, x: RegAddr) -> bool
-    ensures { λ r. ⌜ r ≡ decide (feasibleFor (certificateOf (now (cert .entry))) (a .0) (edgeOf e) (x .0)) ⌝ }
+// Some value of cell x, if it is claimed, is left on an edge from entry n.
+fn feasible_for(n: Entry, e: Edge, x: RegAddr) -> bool
+    ensures { λ r. ⌜ ((C : Certificate) (a : ℕ) → n ≡ entryOf C a → r ≡ decide (feasibleFor C a (edgeOf e) (x .0))) ⌝ }
 {
-    if !claimed(cert, a, x) {
+    if !claimed_in(n, x) {
         return true;
     }
-    if none_left(values_left(cert, a, e, x)) {
+    if none_left(values_left(n, e, x)) {
         return false;
     }
     true
 }
 
-// Some value of the compared and claimed cell is left on an edge from a.
-pub fn feasible(cert: &[u8], a: RomAddr, e: Edge) -> bool
-    ensures { λ r. ⌜ r ≡ decide (Rattle.safety.specs.Rules.feasible (certificateOf (now (cert .entry))) (a .0) (edgeOf e)) ⌝ }
+// Some value of the compared and claimed cell is left on an edge from entry n.
+pub fn feasible(n: Entry, e: Edge) -> bool
+    ensures { λ r. ⌜ ((C : Certificate) (a : ℕ) → n ≡ entryOf C a → r ≡ decide (Rattle.safety.specs.Rules.feasible C a (edgeOf e))) ⌝ }
 {
-    let n = entries::entry_of(entries::entry_part(cert, a));
-    feasible_for(cert, a, e, n.compare.cell)
+    feasible_for(n, e, n.compare.cell)
 }
 
 fn changed_if(b: bool, v: NewValue) -> Change
@@ -220,23 +226,23 @@ fn changed_if(b: bool, v: NewValue) -> Change
 }
 
 // x is among the addresses that a pointer's claim, plus the offset, reaches.
-fn pointed_at(cert: &[u8], a: RomAddr, p: RegAddr, o: u8, x: RegAddr) -> bool
-    ensures { λ r. ⌜ r ≡ pointedAt (certificateOf (now (cert .entry))) (a .0) (p .0) o (x .0) ⌝ }
+fn pointed_at(n: Entry, p: RegAddr, o: u8, x: RegAddr) -> bool
+    ensures { λ r. ⌜ ((C : Certificate) (a : ℕ) → n ≡ entryOf C a → r ≡ pointedAt C a (p .0) o (x .0)) ⌝ }
 {
-    let from = low(cert, a, p) as u16 + o as u16;
-    let upto = high(cert, a, p) as u16 + o as u16;
-    let n = x.0 as u16;
-    (from <= n) & (n <= upto)
+    let from = low_in(n, p) as u16 + o as u16;
+    let upto = high_in(n, p) as u16 + o as u16;
+    let at = x.0 as u16;
+    (from <= at) & (at <= upto)
 }
 
-// What a write at a may leave in cell x.
-pub fn change_of(cert: &[u8], a: RomAddr, w: Write, x: RegAddr) -> Change
-    ensures { λ r. ⌜ changeIn r ≡ changeOf (certificateOf (now (cert .entry))) (a .0) w (x .0) ⌝ }
+// What a write at entry n may leave in cell x.
+pub fn change_of(n: Entry, w: Write, x: RegAddr) -> Change
+    ensures { λ r. ⌜ ((C : Certificate) (a : ℕ) → n ≡ entryOf C a → changeIn r ≡ changeOf C a w (x .0)) ⌝ }
 {
     match w {
         Write::Nothing => Change::Unchanged,
         Write::Register(y, v) => changed_if(x.0 == y.0, v),
-        Write::Pointed(p, o) => changed_if(pointed_at(cert, a, p, o, x), NewValue::Unknown),
+        Write::Pointed(p, o) => changed_if(pointed_at(n, p, o, x), NewValue::Unknown),
         Write::RegisterAndPair(y, p) => changed_if(
             (x.0 == y.0) | (x.0 == p.0) | (x.0 as u16 == p.0 as u16 + 1),
             NewValue::Unknown,

@@ -1,9 +1,10 @@
--- An instruction has as many bytes as its form says; and what encoding does once the room is tested.
+-- An instruction has as many bytes as its form says, or is refused by 8 or 12; and what encoding does once the room is tested.
 -- Assumes nothing.
 use native.Mathlib.Omega.{arith}
 use native.Mathlib.Nat.{zero-add}
 use Prim.Native.Nat.{ℕ, suc, _≤_, _+_, _*_, _/_, _%_}
 use mathlib.Core.Path.{_≡_, refl}
+use mathlib.Core.Logic.{_⊎_, inl, inr}
 use mathlib.Core.Bool.{Bool, true, false}
 use mathlib.Core.List.{List, [], _∷_}
 use lib.ListN.{length}
@@ -14,33 +15,40 @@ use Rattle.base.specs.Choice.{pick}
 use Rattle.base.specs.Outcome.{Outcome, andThen, onOutcome}
 use Rattle.base.specs.Outcome.Outcome.{value, refused}
 use Rattle.isa.specs.declared.Instruction.{Instruction}
-use Rattle.coded.specs.Operands.{nibblePair, nibbles, evenPair, longOffset}
+use Rattle.coded.specs.Operands.{nibbles, evenPair, longOffset}
 use Rattle.instruction_bytes.specs.Bytes.{aluCode, inRow, ldeBit, bytesOf}
 use Rattle.encode.specs.Encode.{sizeOf, encodeAnswer, encodeInto}
 
--- n is the number of the bytes, if there are any
+-- the numbers of a refusal: 8 a field too wide, or an offset on pair 0 or 1; 12 an odd pair
+abbrev pub TooWideOrOdd : ℕ → Type 0
+TooWideOrOdd k = (k ≡ 8) ⊎ (k ≡ 12)
+
+-- n is the number of the bytes, if there are any; else the refusal is by 8 or 12
 abbrev HasSize : ℕ → Outcome (List ℕ) → Type 0
-HasSize n o = onOutcome o length (λ k. n) ≡ n
+HasSize n (value bs) = length bs ≡ n
+HasSize n (refused k) = TooWideOrOdd k
 
-tested : (t : Bool) (bs : List ℕ) (k : ℕ) → HasSize (length bs) (pick t (value bs) (refused k))
-tested true bs k = refl
-tested false bs k = refl
-
-behind-byte : (o : Outcome ℕ) (op : ℕ) (rest : List ℕ) → HasSize (suc (suc (length rest))) (andThen o (λ b. value (op ∷ b ∷ rest)))
-behind-byte (value b) op rest = refl
-behind-byte (refused k) op rest = refl
+tested : (t : Bool) (bs : List ℕ) (k : ℕ) → TooWideOrOdd k → HasSize (length bs) (pick t (value bs) (refused k))
+tested true bs k h = refl
+tested false bs k h = h
 
 nibbles-size : (op hi lo : ℕ) (rest : List ℕ) → HasSize (suc (suc (length rest))) (nibbles op hi lo rest)
-nibbles-size op hi lo rest = behind-byte (nibblePair hi lo) op rest
+nibbles-size op hi lo rest = on (ltb hi 16) (ltb lo 16)
+  where
+    on : (t u : Bool)
+        → HasSize (suc (suc (length rest))) (andThen (pick t (pick u (value (hi * 16 + lo)) (refused 8)) (refused 8)) (λ b. value (op ∷ b ∷ rest)))
+    on true true = refl
+    on true false = inl refl
+    on false u = inl refl
 
 row-size : (col row : ℕ) (rest : List ℕ) → HasSize (suc (length rest)) (inRow col row rest)
-row-size col row rest = tested (ltb row 16) (_ ∷ rest) 8
+row-size col row rest = tested (ltb row 16) (_ ∷ rest) 8 (inl refl)
 
 pair-size : (op r : ℕ) → HasSize 2 (evenPair op r)
-pair-size op r = tested (eqb (r % 2) 0) (op ∷ r ∷ []) 12
+pair-size op r = tested (eqb (r % 2) 0) (op ∷ r ∷ []) 12 (inr refl)
 
 unless : (t : Bool) (n : ℕ) (o : Outcome (List ℕ)) → HasSize n o → HasSize n (pick t (refused 8) o)
-unless true n o h = refl
+unless true n o h = inl refl
 unless false n o h = h
 
 long-size : (op r p x : ℕ) → HasSize 4 (longOffset op r p x)
@@ -91,18 +99,19 @@ has-size (Instruction.Implied p) = refl
 pub size-of-bytes : (i : Instruction) (bs : List ℕ) → value bs ≡ bytesOf i → length bs ≡ sizeOf i
 size-of-bytes i bs e = rw (← e) at (has-size i)
 
--- where the form's size n has room in l: the bytes fit,
+pub bytes-number : (i : Instruction) (k : ℕ) → bytesOf i ≡ refused k → TooWideOrOdd k
+bytes-number i k e = rw e at (has-size i)
+
+-- where the form's size n has room in l: the bytes, if there are any, fit,
 module _ (i : Instruction) (n : ℕ) (l : List ℕ) (size : n ≡ sizeOf i) (room : n ≤ length l) where
-  pub bytes-fit : (bs : List ℕ) → value bs ≡ bytesOf i → length bs ≤ length l
-  bytes-fit bs e = omega (arith, size-of-bytes i bs e)
+  pub bytes-fit : (o : Outcome (List ℕ)) → o ≡ bytesOf i → onOutcome o length (λ k. 0) ≤ length l
+  bytes-fit (value bs) e = omega (arith, size-of-bytes i bs e)
+  bytes-fit (refused k) e = omega arith
 
-  -- storing them from the front is what encoding leaves,
-  pub stored : (bs : List ℕ) → value bs ≡ bytesOf i
-      → (value (length bs) ≡ encodeAnswer i (length l)) × (sets l 0 bs ≡ encodeInto i l)
+  -- and encoding answers their number and stores them from the front; a refusal leaves the buffer
+  pub stored : (o : Outcome (List ℕ)) → o ≡ bytesOf i
+      → (andThen o (λ bs. value (length bs)) ≡ encodeAnswer i (length l)) × (onOutcome o (sets l 0) (λ k. l) ≡ encodeInto i l)
   unfolding encodeAnswer encodeInto
-  stored bs e = rw (le-ltb _ _ (rw size at room), ← e) (refl, rw zero-add at (sets-eq bs l 0 (rw zero-add (bytes-fit bs e))))
-
-  -- and a refusal leaves the buffer
-  pub left-alone : (k : ℕ) → refused k ≡ bytesOf i → (refused k ≡ encodeAnswer i (length l)) × (l ≡ encodeInto i l)
-  unfolding encodeAnswer encodeInto
-  left-alone k e = rw (le-ltb _ _ (rw size at room), ← e) (refl, refl)
+  stored (value bs) e =
+      rw (le-ltb _ _ (rw size at room), ← e) (refl, rw zero-add at (sets-eq bs l 0 (rw zero-add (bytes-fit (value bs) e))))
+  stored (refused k) e = rw (le-ltb _ _ (rw size at room), ← e) (refl, refl)

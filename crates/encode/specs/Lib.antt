@@ -1,3 +1,4 @@
 pub mod Answer
 pub mod Encode
 pub mod Laws
+pub mod Refusals

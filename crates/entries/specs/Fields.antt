@@ -6,7 +6,6 @@ use lib.ListN.{getD}
 use Rattle.base.specs.Addresses.{regAddr, romAddr}
 use Rattle.certificate.specs.Layout.{Certificate, word}
 use Rattle.entries.specs.declared.Claim.{Claim}
-use Rattle.entries.specs.declared.Compare.{Compare}
 use Rattle.entries.specs.declared.Entry.{Entry}
 use Rattle.entries.specs.declared.CellRow.{CellRow}
 use Rattle.entries.specs.declared.RoutineRow.{RoutineRow}

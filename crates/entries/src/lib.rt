@@ -8,6 +8,35 @@ use base::RegAddr;
 use base::RomAddr;
 use base::byte_at;
 
+// The bytes of an entry; the entries stand first.
+const ENTRY_LENGTH: usize = 14;
+
+// Where the registers' rows stand.
+const CELLS_AT: usize = 0xE000;
+
+// The bytes of a register's row.
+const CELL_LENGTH: usize = 3;
+
+// Where the routines' rows stand.
+const ROWS_AT: usize = 0xE300;
+
+// The bytes of a routine's row.
+const ROW_LENGTH: usize = 6;
+
+// Where the stack's floor and top stand.
+const FLOOR_AT: usize = 0xE480;
+
+const TOP_AT: usize = 0xE481;
+
+// How many routines have rows.
+pub const ROUTINES: u8 = 64;
+
+// The cell of a claim or compare that is none.
+pub const NO_CELL: u8 = 255;
+
+// The depth where SP is not yet loaded.
+pub const UNLOADED: u8 = 255;
+
 // That a cell holds low to high; cell FFH is no claim.
 pub struct Claim {
     pub cell: RegAddr,
@@ -77,7 +106,7 @@ pub fn entry_part(cert: &[u8], a: RomAddr) -> &[u8]
     ensures fields { λ r. ⌜ entryFrom (now r) ≡ entryOf (certificateOf (now (cert .entry))) (a .0) ⌝ }
 {
     if a.0 < base::ROM_END {
-        return piece(cert, 14 * a.0 as usize, 14);
+        return piece(cert, ENTRY_LENGTH * a.0 as usize, ENTRY_LENGTH);
     }
     &cert[0..0]
 }
@@ -86,15 +115,15 @@ pub fn entry_part(cert: &[u8], a: RomAddr) -> &[u8]
 pub fn cell_part(cert: &[u8], x: RegAddr) -> &[u8]
     ensures { λ r. ⌜ now r ≡ cellPart (now (cert .entry)) (x .0) ⌝ }
 {
-    piece(cert, 0xE000 + 3 * x.0 as usize, 3)
+    piece(cert, CELLS_AT + CELL_LENGTH * x.0 as usize, CELL_LENGTH)
 }
 
 // The row of a routine, as that part of the certificate; past the last an empty part.
-pub fn row_part(cert: &[u8], n: usize) -> &[u8]
+pub fn row_part(cert: &[u8], n: u8) -> &[u8]
     ensures { λ r. ⌜ now r ≡ rowPart (now (cert .entry)) n ⌝ }
 {
-    if n < 64 {
-        return piece(cert, 0xE300 + 6 * n, 6);
+    if n < ROUTINES {
+        return piece(cert, ROWS_AT + ROW_LENGTH * n as usize, ROW_LENGTH);
     }
     &cert[0..0]
 }
@@ -146,7 +175,7 @@ pub fn cell_row(cert: &[u8], x: RegAddr) -> CellRow
 pub fn routine_row(cert: &[u8], n: u8) -> RoutineRow
     ensures { λ r. ⌜ r ≡ rowOf (certificateOf (now (cert .entry))) n ⌝ }
 {
-    let b = row_part(cert, n as usize);
+    let b = row_part(cert, n);
     RoutineRow {
         start: RomAddr(word_at(b, 0)),
         side: byte_at(b, 2),
@@ -159,11 +188,11 @@ pub fn routine_row(cert: &[u8], n: u8) -> RoutineRow
 pub fn stack_floor(cert: &[u8]) -> u8
     ensures { λ r. ⌜ r ≡ certificateOf (now (cert .entry)) .floor ⌝ }
 {
-    byte_at(cert, 0xE480)
+    byte_at(cert, FLOOR_AT)
 }
 
 pub fn stack_top(cert: &[u8]) -> u8
     ensures { λ r. ⌜ r ≡ certificateOf (now (cert .entry)) .top ⌝ }
 {
-    byte_at(cert, 0xE481)
+    byte_at(cert, TOP_AT)
 }

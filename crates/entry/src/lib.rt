@@ -6,6 +6,7 @@ ghost use Prim.Native.Nat.{_*_, _/_};
 ghost use Rattle.semantics.specs.Step.{actingRequests, entryDue, enterOf, entryCost};
 ghost use Rattle.entry.specs.InPlace.{stateWith, coreOf, coreAfter, ended, finished};
 use base::RomAddr;
+use chip::Registers;
 use semantics::Mode;
 use semantics::Next;
 use semantics::State;
@@ -18,7 +19,7 @@ pub struct Core {
 }
 
 // The state of registers and a core.
-pub fn state_with(regs: [u8; 256], s: Core) -> State
+pub fn state_with(regs: Registers, s: Core) -> State
     ensures { λ r. ⌜ r ≡ stateWith regs s ⌝ }
 {
     let pc = s.pc;
@@ -65,7 +66,7 @@ pub fn acting_requests(mode: Mode, b: u8) -> u8
 }
 
 // Whether an interrupt entry follows the requests.
-pub fn entry_due(regs: &[u8; 256], mode: Mode) -> bool
+pub fn entry_due(regs: &Registers, mode: Mode) -> bool
     ensures { λ r. ⌜ r ≡ entryDue (now (regs .entry)) mode ⌝ }
 {
     match mode {
@@ -140,13 +141,13 @@ fn kept_flags(flags: u8) -> u8
 const ENTRY_COST: u8 = 0;
 
 // An interrupt entry: the program counter and FLAGS are pushed, SYM.2 becomes 0, the vector is loaded.
-pub fn enter(image: &[u8], s: Core, regs: &mut [u8; 256]) -> Ended
+pub fn enter(image: &[u8], s: Core, regs: &mut Registers) -> Ended
     ensures regs { λ _. ⌜ now (regs .exit) ≡ enterOf (now (image .entry)) (now (regs .entry)) (s .pc) .regs ⌝ }
     ensures ended { λ r. ⌜ r ≡ finished s (enterOf (now (image .entry)) (now (regs .entry)) (s .pc) .next) false entryCost ⌝ }
 {
     let pc = s.pc;
     let address = stack::push_address(regs, pc);
-    let f = kept_flags(regs[0xD5]);
+    let f = kept_flags(regs[base::FLAGS_INDEX]);
     let flags = stack::push(regs, f);
     chip::set_interrupts(regs, false);
     let vector = RomAddr(operands::word(base::byte_at(image, 0), base::byte_at(image, 1)));

@@ -4,32 +4,25 @@ ghost use mathlib.Core.Path.{_≡_};
 ghost use mathlib.Core.Bool.{true};
 ghost use Rattle.base.specs.Choice.{pick};
 ghost use Rattle.chip.specs.Interrupts.{setInterruptsOf};
-ghost use Rattle.semantics.specs.Execute.{goesOn, inRom, storeIf, binaryOf, modifyOf, loadInto, codeAddress, loadCodeOf, steppedPair, loadCodeStepOf, jumpOf, jumpPairOf, carryChanged, carryOf, stopOf, executeOf};
+ghost use Rattle.semantics.specs.Execute.{goesOn, storeIf, binaryOf, modifyOf, loadInto, jumpOf, jumpPairOf, carryChanged, carryOf, stopOf, executeOf};
 use action::Action;
 use action::CarryChange;
-use action::CodeAddress;
 use action::Operand;
 use alu::FlagUpdate;
+use base::FLAGS_INDEX;
 use base::RegAddr;
 use base::RomAddr;
+use base::STOPCON_INDEX;
 use chip::Inputs;
+use chip::Registers;
+use code_loads::load_code;
+use code_loads::load_code_step;
 use isa::Alu;
 use isa::Unary;
 use semantics::Mode;
 use semantics::Next;
 
-// Goes on at pc; 14 where a is outside ROM.
-fn in_rom(image: &[u8], a: usize, pc: RomAddr) -> Next
-    ensures { λ r. ⌜ r ≡ inRom (now (image .entry)) a pc ⌝ }
-{
-    Next {
-        pc: pc,
-        mode: Mode::Running,
-        stop: operands::unless(a < image.len(), 14),
-    }
-}
-
-fn store_if(regs: &mut [u8; 256], on: bool, a: RegAddr, v: u8)
+fn store_if(regs: &mut Registers, on: bool, a: RegAddr, v: u8)
     ensures { λ _. ⌜ now (regs .exit) ≡ storeIf (now (regs .entry)) on a v ⌝ }
 {
     if on {
@@ -38,7 +31,7 @@ fn store_if(regs: &mut [u8; 256], on: bool, a: RegAddr, v: u8)
 }
 
 // ADD, ADC, SUB, SBC, OR, AND, XOR; TCM, TM, CP.
-fn binary(op: Alu, d: Operand, s: Operand, regs: &mut [u8; 256], rec: &Inputs, pc: RomAddr) -> Next
+fn binary(op: Alu, d: Operand, s: Operand, regs: &mut Registers, rec: &Inputs, pc: RomAddr) -> Next
     ensures regs { λ _. ⌜ now (regs .exit) ≡ binaryOf op d s (now (regs .entry)) (now (rec .entry)) pc .regs ⌝ }
     ensures next { λ r. ⌜ r ≡ binaryOf op d s (now (regs .entry)) (now (rec .entry)) pc .next ⌝ }
 {
@@ -46,7 +39,7 @@ fn binary(op: Alu, d: Operand, s: Operand, regs: &mut [u8; 256], rec: &Inputs, p
     let q = operands::fetch(regs, rec, s);
     let a = p.addr;
     let x = chip::load(regs, rec, a);
-    let c = alu::carry(regs[0xD5]);
+    let c = alu::carry(regs[FLAGS_INDEX]);
     let r = alu::operate(op, x, q.value, c);
     store_if(regs, alu::stores(op), a, r.value);
     let f = r.flags;
@@ -55,14 +48,14 @@ fn binary(op: Alu, d: Operand, s: Operand, regs: &mut [u8; 256], rec: &Inputs, p
 }
 
 // INC, DEC, COM, CLR, RL, RLC, RR, RRC, SRA.
-fn modify(op: Unary, d: Operand, regs: &mut [u8; 256], rec: &Inputs, pc: RomAddr) -> Next
+fn modify(op: Unary, d: Operand, regs: &mut Registers, rec: &Inputs, pc: RomAddr) -> Next
     ensures regs { λ _. ⌜ now (regs .exit) ≡ modifyOf op d (now (regs .entry)) (now (rec .entry)) pc .regs ⌝ }
     ensures next { λ r. ⌜ r ≡ modifyOf op d (now (regs .entry)) (now (rec .entry)) pc .next ⌝ }
 {
     let p = operands::place_of(regs, rec, d);
     let a = p.addr;
     let x = chip::load(regs, rec, a);
-    let c = alu::carry(regs[0xD5]);
+    let c = alu::carry(regs[FLAGS_INDEX]);
     let r = alu::modify(op, x, c);
     chip::store(regs, a, r.value);
     let f = r.flags;
@@ -71,7 +64,7 @@ fn modify(op: Unary, d: Operand, regs: &mut [u8; 256], rec: &Inputs, pc: RomAddr
 }
 
 // LD.
-fn load(d: Operand, s: Operand, regs: &mut [u8; 256], rec: &Inputs, pc: RomAddr) -> Next
+fn load(d: Operand, s: Operand, regs: &mut Registers, rec: &Inputs, pc: RomAddr) -> Next
     ensures regs { λ _. ⌜ now (regs .exit) ≡ loadInto d s (now (regs .entry)) (now (rec .entry)) pc .regs ⌝ }
     ensures next { λ r. ⌜ r ≡ loadInto d s (now (regs .entry)) (now (rec .entry)) pc .next ⌝ }
 {
@@ -82,69 +75,6 @@ fn load(d: Operand, s: Operand, regs: &mut [u8; 256], rec: &Inputs, pc: RomAddr)
     operands::goes_on(p.ok & q.ok, pc)
 }
 
-// The address that LDC reads.
-fn code_address(from: CodeAddress, regs: &[u8; 256], rec: &Inputs) -> u16
-    ensures { λ r. ⌜ r ≡ codeAddress from (now (regs .entry)) (now (rec .entry)) ⌝ }
-{
-    match from {
-        CodeAddress::Direct(a) => a.0,
-        CodeAddress::Short(p, x) => base::displaced(operands::word_at(regs, rec, p), x),
-        CodeAddress::Long(p, x) => std::num::wrapping_add_u16(operands::word_at(regs, rec, p), x),
-    }
-}
-
-// LDC.
-fn load_code(
-    d: RegAddr,
-    from: CodeAddress,
-    image: &[u8],
-    regs: &mut [u8; 256],
-    rec: &Inputs,
-    pc: RomAddr,
-) -> Next
-    ensures regs { λ _. ⌜ now (regs .exit) ≡ loadCodeOf d from (now (image .entry)) (now (regs .entry)) (now (rec .entry)) pc .regs ⌝ }
-    ensures next { λ r. ⌜ r ≡ loadCodeOf d from (now (image .entry)) (now (regs .entry)) (now (rec .entry)) pc .next ⌝ }
-{
-    let a = code_address(from, regs, rec) as usize;
-    chip::store(regs, d, base::byte_at(image, a));
-    in_rom(image, a, pc)
-}
-
-// 1, or -1 modulo 65536.
-fn unit(up: bool) -> u16
-    ensures { λ r. ⌜ r ≡ pick up 1 65535 ⌝ }
-{
-    if up { 1 } else { 65535 }
-}
-
-// A pair counts up or down.
-fn step_pair(regs: &mut [u8; 256], rec: &Inputs, p: RegAddr, up: bool)
-    ensures { λ _. ⌜ now (regs .exit) ≡ steppedPair (now (regs .entry)) (now (rec .entry)) (p .0) up ⌝ }
-{
-    let w = std::num::wrapping_add_u16(operands::word_at(regs, rec, p), unit(up));
-    chip::store(regs, p, (w / 256) as u8);
-    chip::store(regs, operands::behind(p), (w % 256) as u8);
-}
-
-// LDCI, LDCD: the destination is loaded, then the pair is stepped as it then is.
-fn load_code_step(
-    d: RegAddr,
-    p: RegAddr,
-    up: bool,
-    image: &[u8],
-    regs: &mut [u8; 256],
-    rec: &Inputs,
-    pc: RomAddr,
-) -> Next
-    ensures regs { λ _. ⌜ now (regs .exit) ≡ loadCodeStepOf d p up (now (image .entry)) (now (regs .entry)) (now (rec .entry)) pc .regs ⌝ }
-    ensures next { λ r. ⌜ r ≡ loadCodeStepOf d p up (now (image .entry)) (now (regs .entry)) (now (rec .entry)) pc .next ⌝ }
-{
-    let a = operands::word_at(regs, rec, p) as usize;
-    chip::store(regs, d, base::byte_at(image, a));
-    step_pair(regs, rec, p, up);
-    in_rom(image, a, pc)
-}
-
 // The first address where on holds, else the second.
 fn pick_address(on: bool, to: RomAddr, pc: RomAddr) -> RomAddr
     ensures { λ r. ⌜ r ≡ pick on to pc ⌝ }
@@ -153,13 +83,16 @@ fn pick_address(on: bool, to: RomAddr, pc: RomAddr) -> RomAddr
 }
 
 // JP, JR.
-fn jump(cc: u8, to: RomAddr, regs: &[u8; 256], pc: RomAddr) -> Next
+fn jump(cc: u8, to: RomAddr, regs: &Registers, pc: RomAddr) -> Next
     ensures { λ r. ⌜ r ≡ jumpOf cc to (now (regs .entry)) pc .next ⌝ }
 {
-    operands::goes_on(true, pick_address(alu::condition(cc, regs[0xD5]), to, pc))
+    operands::goes_on(
+        true,
+        pick_address(alu::condition(cc, regs[FLAGS_INDEX]), to, pc),
+    )
 }
 
-fn jump_pair(p: RegAddr, regs: &[u8; 256], rec: &Inputs) -> Next
+fn jump_pair(p: RegAddr, regs: &Registers, rec: &Inputs) -> Next
     ensures { λ r. ⌜ r ≡ jumpPairOf p (now (regs .entry)) (now (rec .entry)) .next ⌝ }
 {
     operands::goes_on(
@@ -180,17 +113,17 @@ fn carry_changed(change: CarryChange, c: bool) -> FlagUpdate
 }
 
 // RCF, SCF, CCF.
-fn change_carry(change: CarryChange, regs: &mut [u8; 256], pc: RomAddr) -> Next
+fn change_carry(change: CarryChange, regs: &mut Registers, pc: RomAddr) -> Next
     ensures regs { λ _. ⌜ now (regs .exit) ≡ carryOf change (now (regs .entry)) pc .regs ⌝ }
     ensures next { λ r. ⌜ r ≡ carryOf change (now (regs .entry)) pc .next ⌝ }
 {
-    let c = alu::carry(regs[0xD5]);
+    let c = alu::carry(regs[FLAGS_INDEX]);
     operands::with_flags(regs, carry_changed(change, c));
     operands::goes_on(true, pc)
 }
 
 // EI, DI.
-fn switch_interrupts(on: bool, regs: &mut [u8; 256], pc: RomAddr) -> Next
+fn switch_interrupts(on: bool, regs: &mut Registers, pc: RomAddr) -> Next
     ensures regs { λ _. ⌜ now (regs .exit) ≡ setInterruptsOf (now (regs .entry)) on ⌝ }
     ensures next { λ r. ⌜ r ≡ goesOn true pc ⌝ }
 {
@@ -199,10 +132,10 @@ fn switch_interrupts(on: bool, regs: &mut [u8; 256], pc: RomAddr) -> Next
 }
 
 // STOP waits where STOPCON is A5H, else it loads 0100H.
-fn stop(regs: &[u8; 256], pc: RomAddr) -> Next
+fn stop(regs: &Registers, pc: RomAddr) -> Next
     ensures { λ r. ⌜ r ≡ stopOf (now (regs .entry)) pc .next ⌝ }
 {
-    if regs[0xF4] == 0xA5 {
+    if regs[STOPCON_INDEX] == 0xA5 {
         return Next {
             pc: pc,
             mode: Mode::Stopped,
@@ -216,7 +149,7 @@ fn stop(regs: &[u8; 256], pc: RomAddr) -> Next
 pub fn execute(
     action: Action,
     image: &[u8],
-    regs: &mut [u8; 256],
+    regs: &mut Registers,
     rec: &Inputs,
     pc: RomAddr,
 ) -> Next

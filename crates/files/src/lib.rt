@@ -1,8 +1,7 @@
 // Reads an image file and a certificate file, and writes the text of their judgement.
-ghost use mathlib.Core.Path.{_≡_};
+ghost use Prim.Native.Nat.{_<_};
 ghost use Rattle.hex_text.specs.Text.{textOutcome};
 ghost use Rattle.hex_write.specs.ImageText.{writtenOutcome};
-ghost use Rattle.judge.specs.Judgement.{blankImage, blankCertificate};
 ghost use Rattle.files.specs.Reading.{Fed, Reads, Judges};
 use hex_text::Stream;
 use hex_text::Text;
@@ -44,6 +43,17 @@ fn read_piece(fd: i32, s: Stream, buffer: &mut [u8]) -> Turn
     }
 }
 
+// How many turns are left behind one: none once the file ended.
+fn turns_left(turns: u64, state: u8) -> u64
+    requires { ⌜ 0 < turns ⌝ }
+    ensures { λ r. ⌜ r < turns ⌝ }
+{
+    if state == ENDED {
+        return 0;
+    }
+    turns - 1
+}
+
 // Reads an open file to its end. A file that cannot be read to its end counts as empty. The turns are more than any file has pieces.
 fn read_open(fd: i32, buffer: &mut [u8]) -> Text
     ensures { λ r. ⌜ Reads (textOutcome r) (now (buffer .entry)) (now (buffer .exit)) ⌝ }
@@ -58,10 +68,7 @@ fn read_open(fd: i32, buffer: &mut [u8]) -> Text
             return hex_text::finish(hex_text::start(), buffer.len());
         }
         s = next;
-        turns -= 1;
-        if state == ENDED {
-            turns = 0;
-        }
+        turns = turns_left(turns, state);
     }
     hex_text::finish(s, buffer.len())
 }
@@ -79,24 +86,12 @@ fn read_file(name: &[u8], buffer: &mut [u8]) -> Text
     answer
 }
 
-fn blank_image() -> [u8; base::IMAGE_LENGTH]
-    ensures { λ r. ⌜ r ≡ blankImage ⌝ }
-{
-    [0xFF; base::IMAGE_LENGTH]
-}
-
-fn blank_certificate() -> [u8; base::CERTIFICATE_LENGTH]
-    ensures { λ r. ⌜ r ≡ blankCertificate ⌝ }
-{
-    [0; base::CERTIFICATE_LENGTH]
-}
-
 // Reads an image file and a certificate file by their names, and writes the text of their judgement at the front of a buffer.
 pub fn judge_files(image_name: &[u8], certificate_name: &[u8], out: &mut [u8]) -> Written
     ensures { λ r. ⌜ Judges (writtenOutcome r) (now (out .entry)) (now (out .exit)) ⌝ }
 {
-    let mut image = blank_image();
-    let mut cert = blank_certificate();
+    let mut image = judge_texts::blank_image();
+    let mut cert = judge_texts::blank_certificate();
     let image_read = read_file(image_name, &mut image);
     let certificate_read = read_file(certificate_name, &mut cert);
     let verdict = checker::check(&image, &cert);

@@ -1,3 +1,4 @@
 pub mod Record
 pub mod Line
 pub mod LineLaws
+pub mod Refusals

@@ -1,6 +1,6 @@
--- Laws on lines: a line that is read fits into the buffer, no line changes the buffer's length, and the recursions one step on.
+-- Laws on lines: a line that is read fits into the buffer, a refused one has a number of 01's table, and the recursions one step on.
 -- Assumes nothing.
-use Prim.Native.Nat.{ℕ, zero, suc, _+_, _*_, _%_, _≤_, _<_}
+use Prim.Native.Nat.{ℕ, zero, suc, _+_, _*_, _%_, _≤_}
 use mathlib.Core.Path.{_≡_, refl, ap, _∙_}
 use mathlib.Core.Bool.{Bool, true, false, false≢true}
 use mathlib.Core.List.{List, [], _∷_, _++_}
@@ -8,11 +8,12 @@ use native.Mathlib.Numerals.{add-one}
 use native.Mathlib.Omega.{arith}
 use lib.ListN.{length, getD, take, drop, length-append, length-drop}
 use lib.Seq.{length-take-le}
-use lib.Dec.{eqb, ltb, leb}
+use lib.Dec.{T, eqb, ltb, leb}
 use borrow.Author.Tests.{eqb-true, leb-true}
 use Rattle.base.specs.Choice.{pick}
 use Rattle.base.specs.ChoiceLaws.{pick-has}
-use Rattle.base.specs.Outcome.{Outcome, andThen, onOutcome}
+use Rattle.base.specs.Formula.{le, _&_, decide, sound}
+use Rattle.base.specs.Outcome.{Outcome, andThen}
 use Rattle.base.specs.Outcome.Outcome.{value, refused}
 use Rattle.hex_line.specs.declared.Reader.{Reader}
 use Rattle.hex_line.specs.declared.Fields.{Fields}
@@ -34,10 +35,14 @@ length-dataOf l zero = refl
 length-dataOf l (suc n) =
     length-append (dataOf l n) (pairAt l (n * 2 + 9) % 256 ∷ []) ∙ (ap (λ (k : ℕ). k + 1) (length-dataOf l n) ∙ add-one n)
 
--- a record that is read ends within the buffer, the end line at address 0; a refusal has a number above 0
-abbrev Within : ℕ → ℕ → Outcome Reader → Type 0
+-- a record that is read ends within the buffer, the end line at address 0; a refusal has a number of 01's table for HEX
+abbrev pub Within : ℕ → ℕ → Outcome Reader → Type 0
 Within end size (value next) = (end ≤ size) × (next .ended ≡ true → end ≡ 0)
-Within end size (refused n) = 0 < n
+Within end size (refused n) = (1 ≤ n) × (n ≤ 7)
+
+-- a number that is written out
+pub numeral : {n : ℕ} → T (decide (le 1 n & le n 7)) → (1 ≤ n) × (n ≤ 7)
+numeral {n} t = sound (le 1 n & le n 7) t
 
 module _ (reader : Reader) (size : ℕ) (f : Fields) where
   abbrev end : ℕ
@@ -48,8 +53,8 @@ module _ (reader : Reader) (size : ℕ) (f : Fields) where
       pick-has (Within end size) (eqb (f .count) 0) _ _
       (λ c. pick-has (Within end size) (eqb (f .address) 0) _ _
       (λ a. pick-has (Within end size) (eqb (f .sum) 0) _ _
-      (λ s. let z : end ≡ 0 = omega (arith, eqb-true (f .count) 0 c, eqb-true (f .address) 0 a) in (omega arith, λ e. z)) (λ s. omega arith)) (λ a. omega arith))
-      (λ c. omega arith)
+      (λ s. let z : end ≡ 0 = omega (arith, eqb-true (f .count) 0 c, eqb-true (f .address) 0 a) in (omega arith, λ e. z)) (λ s. numeral tt)) (λ a. numeral tt))
+      (λ c. numeral tt)
 
   within-data : Within end size (readData reader size f)
   within-data =
@@ -57,37 +62,34 @@ module _ (reader : Reader) (size : ℕ) (f : Fields) where
       (λ s. pick-has (Within end size) (eqb (f .kind) 0) _ _
       (λ k. pick-has (Within end size) (leb (reader .next) (f .address)) _ _
       (λ a. pick-has (Within end size) (leb end size) (value (record { next = end; ended = false })) (refused 5)
-      (λ e. (leb-true (f .address + f .count) size e, λ d. absurd (false≢true d))) (λ e. omega arith)) (λ a. omega arith)) (λ k. omega arith))
-      (λ s. omega arith)
+      (λ e. (leb-true (f .address + f .count) size e, λ d. absurd (false≢true d))) (λ e. numeral tt)) (λ a. numeral tt)) (λ k. numeral tt))
+      (λ s. numeral tt)
 
   within-fields : Within end size (readFields reader size f)
   within-fields = pick-has (Within end size) (eqb (f .kind) 1) _ _ (λ k. within-end) (λ k. within-data)
 
   within-parsed : (a b c : Bool)
       → Within end size (andThen (pick a (pick b (pick c (value f) (refused 1)) (refused 1)) (refused 1)) (readFields reader size))
-  within-parsed false b c = omega arith
-  within-parsed true false c = omega arith
-  within-parsed true true false = omega arith
+  within-parsed false b c = numeral tt
+  within-parsed true false c = numeral tt
+  within-parsed true true false = numeral tt
   within-parsed true true true = within-fields
 
-within-line : (reader : Reader) (size : ℕ) (l : List ℕ)
+pub within-line : (reader : Reader) (size : ℕ) (l : List ℕ)
     → Within (addressOf (bodyOf l) + countOf (bodyOf l)) size (readLine reader size l)
 unfolding readLine parseBody fieldsOf
 within-line reader size l =
     let b = bodyOf l in
     let end = addressOf b + countOf b in
     pick-has (Within end size) (bufferLength size) _ _
-    (λ e. pick-has (Within end size) (reader .ended) _ _ (λ d. omega arith)
+    (λ e. pick-has (Within end size) (reader .ended) _ _ (λ d. numeral tt)
     (λ d. within-parsed reader size (fieldsOf b) (eqb (getD b 0 0) 58) (eqb (length b) (countOf b * 2 + 11))
     (ltb (sumOf b (countOf b + 5)) 256)))
-    (λ e. omega arith)
+    (λ e. numeral tt)
 
 pub read-within : (reader : Reader) (size : ℕ) (l : List ℕ) (next : Reader) → readLine reader size l ≡ value next
     → addressOf (bodyOf l) + countOf (bodyOf l) ≤ size
 read-within reader size l next e = (rw e at (within-line reader size l)) .0
-
-pub refused-above : (reader : Reader) (size : ℕ) (l : List ℕ) (n : ℕ) → readLine reader size l ≡ refused n → 0 < n
-refused-above reader size l n e = rw e at (within-line reader size l)
 
 -- the line that ends a text writes nothing
 pub end-keeps : (reader : Reader) (l m : List ℕ) (next : Reader) → readLine reader (length m) l ≡ value next → next .ended ≡ true
@@ -100,7 +102,7 @@ end-keeps reader l m next e d =
     rw (e, a, n)
 
 -- a buffer keeps its length
-length-stored : (body m : List ℕ) → addressOf body + countOf body ≤ length m → length (stored body m) ≡ length m
+pub length-stored : (body m : List ℕ) → addressOf body + countOf body ≤ length m → length (stored body m) ≡ length m
 unfolding stored
 length-stored body m h =
     let a = addressOf body in
@@ -114,12 +116,3 @@ length-stored body m h =
       length-drop a m,
       length-take-le a m (omega arith),
     )
-
-pub length-lineBuffer : (reader : Reader) (l m : List ℕ) → length (lineBuffer reader l m) ≡ length m
-unfolding lineBuffer
-length-lineBuffer reader l m = by-answer (readLine reader (length m) l) refl
-  where
-    by-answer : (o : Outcome Reader) → readLine reader (length m) l ≡ o
-        → length (onOutcome o (λ next. stored (bodyOf l) m) (λ n. m)) ≡ length m
-    by-answer (value next) e = length-stored (bodyOf l) m (read-within reader (length m) l next e)
-    by-answer (refused n) e = refl

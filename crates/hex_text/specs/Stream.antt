@@ -70,6 +70,11 @@ unfoldable pub feedBuffer : Stream → List ℕ → List ℕ → List ℕ
 feedBuffer s [] m = m
 feedBuffer s (c ∷ t) m = feedBuffer (pushStream (length m) s c) t (pushBuffer s c m)
 
+-- the number by which a refused file is told. `start` and `feed` make streams with 0 or a number of 01's table for HEX, 1 to 7; another number, in
+-- a stream made elsewhere, is told as 1
+abbrev pub toldNumber : ℕ → ℕ
+toldNumber n = pick (leb n 7) n 1
+
 -- the file's end: the line behind the last LF goes to the line reader; a missing end line is told last
 unfoldable pub finishAnswer : ℕ → Stream → Outcome (Unit {0})
 finishAnswer size s =
@@ -79,7 +84,7 @@ finishAnswer size s =
     (pick (leb (s .count) longest) (andThen (readLine (s .reader) size (heldLine s)) endAnswer)
     (refused (longNumber (s .reader) size))))
     (refused 7))
-    (refused (s .number))
+    (refused (toldNumber (s .number)))
 
 -- what stands in the buffer behind a file that is read; what a refused file leaves there does not count
 abbrev pub Leaves : Outcome (Unit {0}) → List ℕ → List ℕ → Type 0

@@ -15,12 +15,13 @@ use Rattle.base.specs.Formula.{le?, same?}
 use Rattle.base.specs.Outcome.{Outcome}
 use Rattle.base.specs.Outcome.Outcome.{value, refused}
 use Rattle.hex_line.specs.Line.{begun, readLine, lineBuffer}
-use Rattle.hex_line.specs.LineLaws.{refused-above}
+use Rattle.hex_line.specs.Refusals.{line-number, line-unchanged}
 use Rattle.hex_line.specs.declared.Reader.{Reader}
 use Rattle.hex_text.specs.Text.{ontoFirst, endedLines, linesBuffer}
 use Rattle.hex_text.specs.TextLaws.{Plain, plain-append}
 use Rattle.hex_text.specs.Stream.{streamOf, started, longNumber, pushStream, pushBuffer, feedBuffer}
-use Rattle.hex_text.specs.StreamLaws.{feed-refused-buffer, long-above}
+use Rattle.hex_text.specs.StreamLaws.{feed-refused-buffer}
+use Rattle.hex_text.specs.Refusals.{long-number}
 use Rattle.hex_text.specs.StreamTheorems.{long-refused, held-more, piecesBuffer, wholeOf, pieces-whole}
 
 -- what stands in front of the first line
@@ -56,11 +57,6 @@ long-keeps reader a m c t h = by-test (eqb c 10) (endedLines t)
     by-test false [] = refl
     by-test false (l ∷ ls) = first l ls
 
--- a refused line writes nothing
-refused-buffer : (reader : Reader) (l m : List ℕ) (k : ℕ) → readLine reader (length m) l ≡ refused k → lineBuffer reader l m ≡ m
-unfolding lineBuffer
-refused-buffer reader l m k e = rw e
-
 -- a stream with an unfinished line writes what the ended lines of both write
 abbrev Writes : List ℕ → Reader → List ℕ → ℕ → List ℕ → Type 0
 Writes t reader held count m =
@@ -73,7 +69,7 @@ module _ (t : List ℕ) (c : ℕ) (reader : Reader) (held : List ℕ) (count : �
   writes-long a h =
       let k : length (take count held) ≡ count = length-take-le count held (omega arith) in
       rw (le-leb 523 count a, in-front (take count held) (c ∷ t) p, long-keeps reader (take count held) m c t (omega arith))
-      (feed-refused-buffer (streamOf reader held count (longNumber reader (length m))) t m (long-above reader (length m)))
+      (feed-refused-buffer (streamOf reader held count (longNumber reader (length m))) t m (long-number reader (length m) .0))
 
   writes-character : count < 523 → (c ≡ 10 → ⊥) → Writes t reader (set held count c) (count + 1) m → Writes (c ∷ t) reader held count m
   unfolding feedBuffer pushStream pushBuffer
@@ -95,8 +91,8 @@ module _ (t : List ℕ) (c : ℕ) (reader : Reader) (held : List ℕ) (count : �
       by-answer : (x : Outcome Reader) → readLine reader (length m) (take (count + 1) (set held count c)) ≡ x → Writes (c ∷ t) reader held count m
       by-answer (value next) g = rw (lt-leb 523 count a, eq-eqb c 10 d, o, g) (ih next (lineBuffer reader l m))
       by-answer (refused k) g =
-          rw (lt-leb 523 count a, eq-eqb c 10 d, o, g, refused-buffer reader l m k g)
-          (feed-refused-buffer (streamOf reader (set held count c) (count + 1) k) t m (refused-above reader (length m) l k g))
+          rw (lt-leb 523 count a, eq-eqb c 10 d, o, g, line-unchanged reader l m k g)
+          (feed-refused-buffer (streamOf reader (set held count c) (count + 1) k) t m (line-number reader (length m) l k g .0))
 
 abbrev Follows : List ℕ → Type 0
 Follows t = (reader : Reader) (held : List ℕ) (count : ℕ) (m : List ℕ) → length held ≡ 523 → count ≤ 523 → Plain (take count held) → Writes t reader held count m

@@ -2,18 +2,14 @@
 -- Assumes nothing.
 use Prim.Native.Nat.{ℕ, _+_, _≤_, _<_}
 use mathlib.Core.Path.{_≡_, refl, sym, ap, _∙_}
-use mathlib.Core.Bool.{Bool, true, false}
 use mathlib.Core.List.{List, [], _∷_}
 use native.Mathlib.Numerals.{add-one}
 use native.Mathlib.Omega.{arith}
 use lib.ListN.{length, getD, drop, drop-of-length-le}
 use lib.Seq.{drop-cons}
 use borrow.Author.Tests.{ne-eqb}
-use Rattle.base.specs.Choice.{pick}
-use Rattle.hex_line.specs.Line.{bufferLength}
-use Rattle.hex_line.specs.declared.Reader.{Reader}
 use Rattle.hex_text.specs.declared.Stream.{Stream}
-use Rattle.hex_text.specs.Stream.{streamOf, longNumber, pushStream, pushBuffer, feedStream, feedBuffer}
+use Rattle.hex_text.specs.Stream.{streamOf, pushStream, pushBuffer, feedStream, feedBuffer}
 
 -- the characters from a position on make of a stream and a buffer what the whole piece makes of the first ones
 pub record FedUpTo (n : ℕ) (s₀ : Stream) (t m₀ : List ℕ) (s : Stream) (at : ℕ) (m : List ℕ) : Type 0 where
@@ -60,14 +56,6 @@ pub fed-refused : {n : ℕ} {s₀ : Stream} {t m₀ : List ℕ} {s : Stream} {at
     → (s ≡ feedStream n s₀ t) × (m ≡ feedBuffer s₀ t m₀)
 fed-refused {n} {s₀} {t} {m₀} {s} {at} {m} f h =
     (sym (f .stream ∙ feed-refused n s (drop at t) h), sym (f .buffer ∙ feed-refused-buffer s (drop at t) m h))
-
-pub long-above : (reader : Reader) (size : ℕ) → 0 < longNumber reader size
-long-above reader size = by-test (bufferLength size) (reader .ended)
-  where
-    by-test : (a b : Bool) → 0 < pick a (pick b 6 1) 7
-    by-test true true = omega arith
-    by-test true false = omega arith
-    by-test false b = omega arith
 
 -- a stream without a refusal
 pub open-stream : (s : Stream) → s .number ≡ 0 → s ≡ streamOf (s .reader) (s .held) (s .count) 0

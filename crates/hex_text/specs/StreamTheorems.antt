@@ -7,7 +7,7 @@ use mathlib.Core.List.{List, [], _∷_, _++_, append-assoc}
 use native.Mathlib.Numerals.{add-one}
 use native.Mathlib.Omega.{arith}
 use mathlib.Core.Logic.{_≢_, _⊎_, inl, inr}
-use lib.Dec.{eqb, ltb, leb}
+use lib.Dec.{eqb, ltb}
 use lib.ListN.{length, getD, take, drop, set, replicate, length-set, length-replicate, length-append}
 use lib.Seq.{length-take-le, take-suc-set}
 use borrow.Author.Tests.{eqb-true, ltb-true, eq-eqb, ne-eqb, le-leb, lt-leb}
@@ -17,25 +17,15 @@ use Rattle.base.specs.Outcome.{Outcome, andThen, onOutcome}
 use Rattle.base.specs.Outcome.Outcome.{value, refused}
 use Rattle.hex_line.specs.Record.{digitOf, pairAt, sumOf, countOf, fieldsOf, parseBody, bodyLength, bodyOf}
 use Rattle.hex_line.specs.Line.{bufferLength, begun, readFields, readLine, lineBuffer}
-use Rattle.hex_line.specs.LineLaws.{refused-above, end-keeps, length-lineBuffer}
+use Rattle.hex_line.specs.LineLaws.{end-keeps}
+use Rattle.hex_line.specs.Refusals.{line-number, length-lineBuffer}
 use Rattle.hex_line.specs.declared.Reader.{Reader}
 use Rattle.hex_text.specs.declared.Stream.{Stream}
 use Rattle.hex_text.specs.Text.{lines, firstLength, endAnswer, linesAnswer, linesBuffer, textAnswer, textBuffer}
 use Rattle.hex_text.specs.TextLaws.{Plain, plain-append, first-line-of, first-line, no-line, last-line, first-behind, first-positive, first-within}
-use Rattle.hex_text.specs.Stream.{streamOf, started, longNumber, heldLine, appended, pushStream, pushBuffer, feedStream, feedBuffer, finishAnswer, Leaves}
-use Rattle.hex_text.specs.StreamLaws.{feed-refused, long-above}
-
--- the buffer keeps its length
-length-pushBuffer : (s : Stream) (c : ℕ) (m : List ℕ) → length (pushBuffer s c m) ≡ length m
-unfolding pushBuffer
-length-pushBuffer s c m = by-test (eqb (s .number) 0) (leb 523 (s .count)) (eqb c 10)
-  where
-    by-test : (a b d : Bool)
-        → length (pick a (pick b m (pick d (lineBuffer (s .reader) (heldLine (appended s c)) m) m)) m) ≡ length m
-    by-test false b d = refl
-    by-test true true d = refl
-    by-test true false true = length-lineBuffer (s .reader) (heldLine (appended s c)) m
-    by-test true false false = refl
+use Rattle.hex_text.specs.Stream.{streamOf, started, longNumber, pushStream, pushBuffer, feedStream, feedBuffer, finishAnswer, Leaves}
+use Rattle.hex_text.specs.StreamLaws.{feed-refused}
+use Rattle.hex_text.specs.Refusals.{long-number, length-pushBuffer, length-feedBuffer}
 
 -- feeding a ++ b is feeding a, then b
 pub feed-append : (n : ℕ) (s : Stream) (a b : List ℕ) → feedStream n s (a ++ b) ≡ feedStream n (feedStream n s a) b
@@ -134,16 +124,16 @@ last-leaves reader l m = by-answer (bufferLength (length m)) (readLine reader (l
     by-answer true (refused k) e = tt
     by-answer false o e = tt
 
-leaves-same : (o : Outcome (Unit {0})) (m : List ℕ) → Leaves o m m
-leaves-same (value u) m = refl
-leaves-same (refused k) m = tt
+pub leaves-same : (o : Outcome (Unit {0})) {expected after : List ℕ} → after ≡ expected → Leaves o expected after
+leaves-same (value u) e = e
+leaves-same (refused k) e = tt
 
 -- a refused file
-ends-refused : (n : ℕ) (s : Stream) (t : List ℕ) → 0 < s .number → finishAnswer n (feedStream n s t) ≡ refused (s .number)
+ends-refused : (n : ℕ) (s : Stream) (t : List ℕ) → (1 ≤ s .number) × (s .number ≤ 7) → finishAnswer n (feedStream n s t) ≡ refused (s .number)
 unfolding finishAnswer
 ends-refused n s t h =
-    let z : s .number ≡ 0 → ⊥ = omega arith in
-    rw (feed-refused n s t h, ne-eqb (s .number) 0 z)
+    let z : s .number ≡ 0 → ⊥ = omega (arith, h .0) in
+    rw (feed-refused n s t (h .0), ne-eqb (s .number) 0 z, le-leb (s .number) 7 (h .1))
 
 -- one more character is held
 pub held-more : (held : List ℕ) (count c : ℕ) → count < length held → take (count + 1) (set held count c) ≡ take count held ++ (c ∷ [])
@@ -163,7 +153,7 @@ Same n t reader held count m =
 same-end : (n : ℕ) (reader : Reader) (held : List ℕ) (count : ℕ) (m : List ℕ) → length m ≡ n → length held ≡ 523 → count ≤ 523
     → Plain (take count held) → Same n [] reader held count m
 unfolding feedStream feedBuffer finishAnswer linesAnswer linesBuffer
-same-end n reader held zero m e w h p = rw no-line (refl, leaves-same (pick (bufferLength n) (endAnswer reader) (refused 7)) m)
+same-end n reader held zero m e w h p = rw no-line (refl, leaves-same (pick (bufferLength n) (endAnswer reader) (refused 7)) refl)
 same-end n reader [] (suc count) m e w h p = let z : ⊥ = omega arith in absurd z
 same-end n reader (x ∷ held) (suc count) m e w h p =
     let z : suc count ≡ 0 → ⊥ = omega arith in
@@ -182,7 +172,7 @@ module _ (n : ℕ) (t : List ℕ) (c : ℕ) (reader : Reader) (held : List ℕ) 
       let k : length (take count held) ≡ count = length-take-le count held (omega arith) in
       let long : 523 < length l = rw (length-take-le (firstLength x) x (first-within x)) (omega (arith, first-positive c t)) in
       let g : readLine reader n l ≡ refused (longNumber reader n) = long-refused reader n l long in
-      let r = ends-refused n (streamOf reader held count (longNumber reader n)) t (long-above reader n) in
+      let r = ends-refused n (streamOf reader held count (longNumber reader n)) t (long-number reader n) in
       let b = refused-stands reader n l (longNumber reader n) g in
       let o : lines x ≡ l ∷ lines (drop (firstLength x) x) =
       first-line-of x (omega (arith, length-append (take count held) (c ∷ t))) in
@@ -213,7 +203,7 @@ module _ (n : ℕ) (t : List ℕ) (c : ℕ) (reader : Reader) (held : List ℕ) 
           rw (e, lt-leb 523 count a, eq-eqb c 10 d, o, e, g)
           (ih next (lineBuffer reader l m) (length-lineBuffer reader l m ∙ e))
       by-answer (refused k) g =
-          let r = ends-refused n (streamOf reader (set held count c) (count + 1) k) t (refused-above reader n l k g) in
+          let r = ends-refused n (streamOf reader (set held count c) (count + 1) k) t (line-number reader n l k g) in
           rw (e, lt-leb 523 count a, eq-eqb c 10 d, o, e, g, refused-stands reader n l k g) (r, tt)
 
 abbrev Follows : ℕ → List ℕ → Type 0
@@ -250,11 +240,6 @@ piecesBuffer s (p ∷ ps) m = piecesBuffer (feedStream (length m) s p) ps (feedB
 unfoldable pub wholeOf : List (List ℕ) → List ℕ
 wholeOf [] = []
 wholeOf (p ∷ ps) = p ++ wholeOf ps
-
-length-feedBuffer : (s : Stream) (t m : List ℕ) → length (feedBuffer s t m) ≡ length m
-unfolding feedBuffer
-length-feedBuffer s [] m = refl
-length-feedBuffer s (c ∷ t) m = length-feedBuffer (pushStream (length m) s c) t (pushBuffer s c m) ∙ length-pushBuffer s c m
 
 -- wherever a file is cut, the pieces in turn make of the stream and the buffer what the whole file makes of them
 pub pieces-whole : (s : Stream) (ps : List (List ℕ)) (m : List ℕ)

@@ -5,7 +5,7 @@ ghost use lib.ListN.{length, take, drop};
 ghost use Rattle.base.specs.Outcome.{andThen};
 ghost use Rattle.hex_line.specs.Line.{begun, readLine};
 ghost use Rattle.hex_text.specs.Text.{lines, firstLength, textOutcome, endAnswer, linesAnswer, linesBuffer, textAnswer, textBuffer};
-ghost use Rattle.hex_text.specs.Stream.{streamOf, started, longNumber, feedStream, feedBuffer, finishAnswer};
+ghost use Rattle.hex_text.specs.Stream.{streamOf, started, longNumber, feedStream, feedBuffer, toldNumber, finishAnswer};
 use hex_line::Line;
 use hex_line::Reader;
 
@@ -204,13 +204,20 @@ fn check_last(reader: Reader, held: [u8; 523], count: usize, length: usize) -> T
     }
 }
 
+// The number by which a refused file is told: 1 to 7. A stream that `start` and `feed` did not make can hold another number, which counts as 1.
+fn told_number(number: u8) -> u8
+    ensures { λ r. ⌜ r ≡ toldNumber number ⌝ }
+{
+    if number <= 7 { number } else { 1 }
+}
+
 // The file ends: the answer for a buffer of this length. Nothing is left to write: a last line without LF is the end line, or the file is refused.
 pub fn finish(s: Stream, length: usize) -> Text
     ensures { λ r. ⌜ textOutcome r ≡ finishAnswer length s ⌝ }
 {
     let number = s.number;
     if number != 0 {
-        return Text::Refused(number);
+        return Text::Refused(told_number(number));
     }
     if hex_line::is_buffer_length(length) {
         let reader = s.reader;

@@ -5,40 +5,14 @@ use base::IMAGE_LENGTH;
 use hex_text::Text;
 use hex_write::TEXT_LENGTH;
 use hex_write::Written;
-use libc::STDOUT_FILENO;
-
-// How many differences are printed.
-const PRINTED: u64 = 5;
-
-// One case of the file: alike, different, or none left.
-enum Case {
-    Same,
-    Differs,
-    End,
-}
-
-// Two bytes of the file as a number, high byte first; or its end.
-enum Number {
-    Of(usize),
-    End,
-}
-
-fn print(text: &[u8]) {
-    io::write_all(STDOUT_FILENO, text);
-}
-
-fn print_number(n: u64) {
-    io::print_decimal(STDOUT_FILENO, n);
-}
+use test_support::Case;
+use test_support::Counts;
+use test_support::print;
+use test_support::print_number;
+use test_support::read_edits;
 
 fn wide(x: u8) -> u64 {
     x as u64
-}
-
-fn size(x: u8) -> usize
-    ensures { λ r. ⌜ r < 256 ⌝ }
-{
-    x as usize
 }
 
 // The number of an answer, 0 where the text was read to its end.
@@ -72,27 +46,6 @@ fn read_pieces(text: &[u8], step: usize, image: &mut [u8]) -> u8
         at = e;
     }
     text_number(hex_text::finish(s, image.len()))
-}
-
-fn put(image: &mut [u8], at: usize, byte: u8) {
-    if at < image.len() {
-        image[at] = byte;
-    }
-}
-
-// Makes one edit of a case: address, high byte first, and byte.
-fn read_edit(fd: i32, image: &mut [u8]) {
-    let mut three = [0u8; 3];
-    io::read_full(fd, &mut three);
-    put(image, size(three[0]) * 256 + size(three[1]), three[2]);
-}
-
-fn read_edits(fd: i32, count: usize, image: &mut [u8]) {
-    let mut i: usize = 0;
-    while i < count {
-        read_edit(fd, image);
-        i += 1;
-    }
 }
 
 // Prints both answers to a text as an image file, and the text.
@@ -182,92 +135,42 @@ fn agrees(text: &[u8], number: u8, expected: &[u8], step: usize) -> bool
     numbers & written & check::same(&whole, &kept)
 }
 
-fn read_number(fd: i32) -> Number {
-    let mut two = [0u8; 2];
-    let n = io::read_full(fd, &mut two);
-    if n < 2 {
-        return Number::End;
-    }
-    Number::Of(size(two[0]) * 256 + size(two[1]))
-}
-
-fn read_byte(fd: i32) -> u8 {
-    let mut one = [0u8; 1];
-    io::read_full(fd, &mut one);
-    one[0]
-}
-
-fn length_of(n: Number) -> usize {
-    match n {
-        Number::Of(x) => x,
-        Number::End => 0,
-    }
-}
-
-// Reads one case whose text has this length, and compares.
+// Reads the rest of a case whose text has this length, and compares; one that is cut off differs. The index says in what pieces the text is read.
 fn compare(fd: i32, text: &mut [u8], length: usize, index: u64) -> bool {
     if text.len() < length {
         return false;
     }
     let got = io::read_full(fd, &mut text[..length]);
-    let number = read_byte(fd);
-    let count = length_of(read_number(fd));
+    let number = test_support::read_byte(fd);
     let mut expected = [255u8; IMAGE_LENGTH];
-    read_edits(fd, count, &mut expected);
+    let whole = read_edits(fd, &mut expected) & (got == length);
     let step = (index % 61 + 1) as usize;
-    agrees(&text[..length], number, &expected, step) & (got == length)
+    agrees(&text[..length], number, &expected, step) & whole
 }
 
-fn report(index: u64, differ: u64) {
-    if differ < PRINTED {
-        print(b"case ");
-        print_number(index);
+fn run_case(fd: i32, counts: Counts) -> Case {
+    let mut two = [0u8; 2];
+    if io::read_full(fd, &mut two) == 0 {
+        return Case::End;
+    }
+    let mut text = io::large_buffer();
+    let length = test_support::word(two[0], two[1]) as usize;
+    if compare(fd, &mut text, length, counts.compared) {
+        return Case::Same;
+    }
+    if test_support::tells(counts) {
         print(b" differs\n");
     }
+    Case::Differs
 }
 
-fn run_case(fd: i32, index: u64, differ: u64) -> Case {
-    let mut text = io::large_buffer();
-    match read_number(fd) {
-        Number::End => Case::End,
-        Number::Of(length) => {
-            if compare(fd, &mut text, length, index) {
-                return Case::Same;
-            }
-            report(index, differ);
-            Case::Differs
-        }
+fn run_cases() {
+    let fd = test_support::open(b"hex.bin");
+    let mut counts = test_support::start();
+    while counts.left > 0 {
+        counts = test_support::counted(counts, run_case(fd, counts));
     }
-}
-
-fn print_counts(compared: u64, differ: u64) {
-    print_number(compared);
-    print(b" compared, ");
-    print_number(differ);
-    print(b" differ\n");
-}
-
-// Runs the cases of the file and prints how many were compared and how many differ.
-fn run_cases(fd: i32) {
-    let mut compared: u64 = 0;
-    let mut differ: u64 = 0;
-    let mut turns = u64::MAX;
-    while turns > 0 {
-        turns -= 1;
-        match run_case(fd, compared, differ) {
-            Case::Same => {
-                compared = std::num::wrapping_add_u64(compared, 1);
-            }
-            Case::Differs => {
-                compared = std::num::wrapping_add_u64(compared, 1);
-                differ = std::num::wrapping_add_u64(differ, 1);
-            }
-            Case::End => {
-                turns = 0;
-            }
-        }
-    }
-    print_counts(compared, differ);
+    test_support::finish(fd, counts);
 }
 
 fn main() {
@@ -281,12 +184,5 @@ fn main() {
     example_without_end();
     example_of_length();
     write_and_read();
-    let path = b"hex.bin";
-    let fd = os::open_read(path);
-    if fd < 0 {
-        os::fail(path);
-        return;
-    }
-    run_cases(fd);
-    libc::close(fd);
+    run_cases();
 }

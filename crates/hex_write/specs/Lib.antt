@@ -1,3 +1,4 @@
 pub mod ImageText
 pub mod ImageTextLaws
 pub mod ReadBack
+pub mod Refusals

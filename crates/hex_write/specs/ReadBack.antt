@@ -9,11 +9,12 @@ use native.Mathlib.Omega.{arith}
 use lib.Dec.{eqb, ltb}
 use lib.ListN.{length, getD, take, drop, length-append, length-drop, List·getD-append, drop-of-length-le}
 use lib.Seq.{getD-append-add, getD-at, take-at, drop-at, drop-drop, take-suc, getD-drop, take-all, take-add, length-take-le}
-use borrow.Author.Tests.{ltb-true, ltb-false, ne-eqb, lt-ltb, le-ltb, le-leb}
+use borrow.Author.Tests.{eqb-true, ltb-true, ltb-false, ne-eqb, lt-ltb, le-ltb, le-leb}
+use Rattle.base.specs.Choice.{pick}
 use Rattle.base.specs.ChoiceLaws.{pick-has}
-use Rattle.base.specs.Outcome.{Outcome}
+use Rattle.base.specs.Outcome.{Outcome, onOutcome}
 use Rattle.base.specs.Outcome.Outcome.{value, refused}
-use Rattle.base.specs.Lengths.{romLength}
+use Rattle.base.specs.Lengths.{romLength, isImageLength}
 use Rattle.hex_line.specs.Record.{digitOf, joined, pairAt, sumOf, dataOf, countOf, addressOf, fieldsOf, parseBody, bodyLength, bodyOf}
 use Rattle.hex_line.specs.Line.{bufferLength, begun, readLine, stored, lineBuffer}
 use Rattle.hex_line.specs.LineLaws.{sumOf-more}
@@ -21,7 +22,7 @@ use Rattle.hex_line.specs.declared.Reader.{Reader}
 use Rattle.hex_line.specs.declared.Fields.{Fields}
 use Rattle.hex_text.specs.Text.{lines, linesAnswer, linesBuffer, textAnswer, textBuffer}
 use Rattle.hex_text.specs.TextLaws.{Plain, plain-append, first-line}
-use Rattle.hex_write.specs.ImageText.{hexDigit, headByte, headSum, recordByte, digits, recordLine, records, endLine, recordCount, imageText, textLength}
+use Rattle.hex_write.specs.ImageText.{hexDigit, headByte, headSum, recordByte, digits, recordLine, records, endLine, recordCount, imageText, textLength, writeAnswer, writeBuffer}
 use Rattle.hex_write.specs.ImageTextLaws.{digits-more, length-digits, length-imageText}
 
 -- a digit is read as it was written
@@ -330,3 +331,17 @@ ReadsBack (refused k) m out = Unit {0}
 pub reads-back : (m rest : List ℕ) → length m ≡ romLength → ((i : ℕ) → getD m i 0 < 256)
     → ReadsBack (value textLength) m (imageText m ++ rest)
 reads-back m rest s byte m₀ s₀ = rw (take-at (imageText m) rest textLength (length-imageText m)) (read-back m m₀ s s₀ byte)
+
+-- what `write_image` answers and leaves in a buffer
+pub write-reads-back : (m out : List ℕ) → ((i : ℕ) → getD m i 0 < 256) → ReadsBack (writeAnswer (length m) (length out)) m (writeBuffer m out)
+unfolding writeAnswer writeBuffer
+write-reads-back m out byte = on (isImageLength (length m)) (ltb (length out) textLength) refl
+  where
+    answer : Bool → Bool → Outcome ℕ
+    answer t u = pick t (pick u (refused 7) (value textLength)) (refused 7)
+
+    on : (t u : Bool) → isImageLength (length m) ≡ t
+        → ReadsBack (answer t u) m (onOutcome (answer t u) (λ n. imageText m ++ drop n out) (λ number. out))
+    on true true e = tt
+    on true false e = reads-back m (drop textLength out) (eqb-true (length m) romLength e) byte
+    on false u e = tt

@@ -1,10 +1,10 @@
 -- The opcode map (table 6-5), by low nibble (column) and high nibble (row), and each form's length and cycles.
 -- Assumes nothing.
-use Prim.Native.Nat.{ℕ, _+_, _*_, _/_, _%_}
+use Prim.Native.Nat.{ℕ, _/_, _%_}
 use mathlib.Core.List.{List, [], _∷_}
 use Rattle.isa.specs.declared.AluRow.{AluRow}
 use Rattle.isa.specs.declared.UnaryRow.{UnaryRow}
-use lib.Dec.{eqb, ltb}
+use lib.Dec.{ltb}
 use Rattle.base.specs.Choice.{pick, choose}
 use Rattle.isa.specs.declared.Alu.{Alu}
 use Rattle.isa.specs.declared.Alu.the-variants.{Add, Adc, Sub, Sbc, Or, And, Tcm, Tm, Cp, Xor}

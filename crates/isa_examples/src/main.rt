@@ -1,4 +1,4 @@
-// Decodes and encodes one instruction of every first byte, and the examples of the answers 7, 8, 10, 11 and 12.
+// Decodes and encodes one instruction of every first byte, and the examples of the answers 7, 8, 10, 11 and 12; tells every first byte's length.
 use base::IMAGE_LENGTH;
 use base::RegAddr;
 use base::RomAddr;
@@ -13,24 +13,23 @@ use isa::Instruction;
 use isa::Unary;
 use roundtrip::Copied;
 use roundtrip::copy_instruction;
-
-fn text(s: &[u8]) {
-    io::write_all(1, s);
-}
+use test_support::print;
+use test_support::print_hex;
+use test_support::print_number;
 
 fn number(n: u8) {
-    text(b" ");
-    io::print_decimal(1, n as u64);
+    print(b" ");
+    print_number(n as u64);
 }
 
 fn byte(b: u8) {
-    text(b" ");
-    io::print_hex(1, b as u64, 2);
+    print(b" ");
+    print_hex(b as u64, 2);
 }
 
 fn word(w: u16) {
-    text(b" ");
-    io::print_hex(1, w as u64, 4);
+    print(b" ");
+    print_hex(w as u64, 4);
 }
 
 // The next dot from a place on, or the end.
@@ -50,7 +49,7 @@ fn name(names: &[u8], at: usize) {
     let end = end_of(names, at);
     if end <= names.len() {
         if at <= end {
-            text(&names[at..end]);
+            print(&names[at..end]);
         }
     }
 }
@@ -249,9 +248,9 @@ fn copied(r: Copied) -> u8 {
 fn answer(n: u8) {
     if n < 5 {
         number(n);
-        text(b" bytes");
+        print(b" bytes");
     } else {
-        text(b" refused");
+        print(b" refused");
         number(n);
     }
 }
@@ -283,22 +282,22 @@ fn restored(i: Instruction, n: u8, bytes: &[u8; 4]) -> bool {
 
 // The form with its operands, length, cycles, and whether it encodes to the same bytes.
 fn found(i: Instruction, n: u8, bytes: &[u8; 4]) {
-    text(b" ");
+    print(b" ");
     write_form(i);
-    text(b";");
+    print(b";");
     number(n);
     number(isa::cycles_of(bytes[0]));
     if restored(i, n, bytes) {
-        text(b" same");
+        print(b" same");
     } else {
-        text(b" other");
+        print(b" other");
     }
 }
 
 fn row_name(first: u8, second: u8) {
-    io::print_hex(1, first as u64, 2);
+    print_hex(first as u64, 2);
     byte(second);
-    text(b":");
+    print(b":");
 }
 
 // A row: what the bytes decode to, or the number of the refusal.
@@ -311,7 +310,7 @@ fn row(first: u8, second: u8) {
     } else {
         answer(decoded(d));
     }
-    text(b"\n");
+    print(b"\n");
 }
 
 // The name of an example: 0 to 13 encode, 14 to 22 decode.
@@ -327,13 +326,13 @@ fn example(n: u8) {
           30H 01H.....................F4H 01H.....................",
         28 * (n as usize),
     );
-    text(b":");
+    print(b":");
 }
 
 fn decoding(n: u8, s: &[u8], at: usize) {
     example(n);
     answer(decoded(decode(s, at)));
-    text(b"\n");
+    print(b"\n");
 }
 
 fn decoding_examples() {
@@ -390,9 +389,9 @@ fn encoding(n: u8) {
     example(n);
     answer(encoded(encode_in(encoder_example(n), &mut out, room_of(n))));
     if check::same(&out, &before) {
-        text(b" unchanged");
+        print(b" unchanged");
     }
-    text(b"\n");
+    print(b"\n");
 }
 
 fn encoding_examples() {
@@ -419,11 +418,11 @@ fn bytes(b: &[u8; 4]) {
 }
 
 fn copy_name(at: u8, room: u8) {
-    text(b"copy at");
+    print(b"copy at");
     number(at);
-    text(b",");
+    print(b",");
     number(room);
-    text(b" bytes:");
+    print(b" bytes:");
 }
 
 // Copying into a buffer of this length, at most 4, and what the buffer then holds.
@@ -437,7 +436,7 @@ fn copying(at: u8, room: u8) {
         room as usize,
     )));
     bytes(&out);
-    text(b"\n");
+    print(b"\n");
 }
 
 fn copying_examples() {
@@ -451,10 +450,27 @@ fn copying_examples() {
     copying(14, 4);
 }
 
-fn first_bytes() {
+// The length that `isa` tells of a first byte, 0 where it starts no instruction; a line for each row of table 6-5.
+fn length(b: u8) {
+    print_number(isa::length_of(b) as u64);
+    if b % 16 == 15 {
+        print(b"\n");
+    }
+}
+
+fn first_byte(b: u8, lengths: bool) {
+    if lengths {
+        length(b);
+    } else {
+        row(b, 0x24);
+    }
+}
+
+// The rows of all first bytes, or their lengths.
+fn first_bytes(lengths: bool) {
     let mut b: u16 = 0;
     while b < 256 {
-        row(b as u8, 0x24);
+        first_byte(b as u8, lengths);
         b += 1;
     }
 }
@@ -479,6 +495,7 @@ fn main() {
     decoding_examples();
     encoding_examples();
     copying_examples();
-    first_bytes();
+    first_bytes(false);
     second_bytes();
+    first_bytes(true);
 }

@@ -2,17 +2,20 @@
 -- address 0000H; where both are read the checker's verdict counts.
 -- Assumes nothing.
 use Prim.Native.Nat.{ℕ}
-use mathlib.Core.List.{List}
-use lib.ListN.{replicate}
+use mathlib.Core.List.{List, _++_}
+use lib.ListN.{length, drop, replicate}
+use lib.Dec.{ltb}
 use Rattle.base.specs.Addresses.{romAddr}
+use Rattle.base.specs.Choice.{pick}
 use Rattle.base.specs.Outcome.{Outcome, onOutcome}
+use Rattle.base.specs.Outcome.Outcome.{value, refused}
 use Rattle.base.specs.Lengths.{romLength, certificateLength}
 use Rattle.hex_text.specs.Text.{textAnswer, textBuffer}
 use Rattle.certificate.specs.declared.Verdict.{Verdict}
 use Rattle.certificate.specs.declared.Verdict.the-variants.{Refused}
 use Rattle.certificate.specs.Layout.{certificateOf}
 use Rattle.safety.specs.Verdicts.{verdictOf}
-use Rattle.report.specs.Report.{reportText}
+use Rattle.report.specs.Report.{longestReport, reportText}
 
 -- a refused file
 abbrev pub refusedFile : ℕ → Verdict
@@ -31,10 +34,19 @@ blankImage = filled romLength 0xFF
 abbrev pub blankCertificate : List ℕ
 blankCertificate = filled certificateLength 0
 
--- what `bridgecheck` prints of the two files' texts
+-- what `bridgecheck` prints of an image text and a certificate text
 unfoldable pub printed : List ℕ → List ℕ → List ℕ
 printed image certificate =
     let cert = textBuffer certificate blankCertificate in
     reportText
     (judgement (textAnswer image romLength) (textAnswer certificate certificateLength) (verdictOf (textBuffer image blankImage) cert))
     (certificateOf cert)
+
+-- the answer to two texts: the length of what is printed; 7: too short a buffer
+unfoldable pub printedAnswer : List ℕ → List ℕ → ℕ → Outcome ℕ
+printedAnswer image certificate room = pick (ltb room longestReport) (refused 7) (value (length (printed image certificate)))
+
+-- the buffer behind it: what is printed at its front, unchanged where it is refused
+unfoldable pub printedBuffer : List ℕ → List ℕ → List ℕ → List ℕ
+printedBuffer image certificate out =
+    onOutcome (printedAnswer image certificate (length out)) (λ n. printed image certificate ++ drop n out) (λ number. out)

@@ -1,1 +1,3 @@
 pub mod Judgement
+pub mod JudgementLaws
+pub mod Refusals

@@ -1,11 +1,11 @@
 // Checks of a certificate.
-use crate::printing::print;
-use crate::printing::print_hex;
-use crate::printing::print_number;
 use base::CERTIFICATE_LENGTH;
 use base::IMAGE_LENGTH;
-use bench_support::put;
 use certificate::Verdict;
+use test_support::print;
+use test_support::print_hex;
+use test_support::print_number;
+use test_support::put;
 
 // The entry of 0127H, the first of the groups.
 const GROUPS: usize = 14 * 0x127;

@@ -1,12 +1,11 @@
 // Checks of certificates and HEX texts, to be timed: `judge_bench WHAT`. The argument is one digit, 0 for everything. `bench/run` times it and prints a
 // table; the gate compares what is printed.
 mod certificates;
-mod printing;
 mod texts;
 
 // 1 to 3 are certificates, 4 to 6 HEX texts.
 fn work(what: u64) {
-    printing::print_number(what);
+    test_support::print_number(what);
     if what < 4 {
         certificates::work(what);
     } else {
@@ -17,12 +16,12 @@ fn work(what: u64) {
 fn argument() -> u64 {
     let mut text = [0u8; 1];
     os::arg(1, &mut text);
-    bench_support::number(&text)
+    test_support::number(&text)
 }
 
 // Two calls of `work`, as in `machine_bench`.
 fn main() {
-    let rows = bench_support::rows_of(argument(), 6);
+    let rows = test_support::rows_of(argument(), 6);
     let last = rows.last;
     let mut what = rows.first;
     work(what);

@@ -1,10 +1,10 @@
 // Reading and writing an image of 4,096 bytes as Intel HEX, 11,276 bytes of text.
-use crate::printing::print;
-use crate::printing::print_number;
 use base::IMAGE_LENGTH;
 use hex_text::Text;
 use hex_write::TEXT_LENGTH;
 use hex_write::Written;
+use test_support::print;
+use test_support::print_number;
 
 // The bytes of an image that has each value in each place modulo 256.
 fn image() -> [u8; IMAGE_LENGTH] {

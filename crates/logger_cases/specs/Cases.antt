@@ -1,15 +1,18 @@
 -- Logger cases (a) to (l) of 01: what each says, the list, and the theorem that all hold.
 -- Assumes nothing.
-use mathlib.Core.Path.{_≡_, refl, sym, _∙_, ap}
+use mathlib.Core.Path.{_≡_, refl, _∙_, ap}
 use mathlib.Core.Bool.{Bool, true, false}
 use mathlib.Core.List.{List, [], _∷_, _++_}
-use Prim.Native.Nat.{ℕ, _-_}
+use Prim.Native.Nat.{ℕ, _-_, _≤_}
 use Prim.Native.Char.{code}
 use Prim.Native.String.{String}
 use Prim.Native.String as text
+use borrow.Author.Tests.{le-leb}
+use lib.Dec.{T, ltb, leb}
 use lib.ListN.{length, getD, replicate, set}
 use Rattle.base.specs.Addresses.{romAddr}
-use Rattle.base.specs.Choice.{pick, choose}
+use Rattle.base.specs.ChoiceLaws.{choose-other}
+use Rattle.base.specs.Formula.{decide}
 use Rattle.base.specs.Lengths.{romLength, recordLength}
 use Rattle.isa.specs.declared.Alu.{Alu}
 use Rattle.isa.specs.declared.Unary.{Unary}
@@ -24,10 +27,12 @@ use Rattle.semantics.specs.Reset.{resetState}
 use Rattle.certificate.specs.declared.Verdict.{Verdict}
 use Rattle.certificate.specs.declared.Verdict.the-variants.{Accepted, Refused}
 use Rattle.certificate.specs.Layout.{Certificate, certificateFrom, certificateOf}
-use Rattle.safety.specs.Verdicts.{verdictOn, verdictOf}
+use Rattle.safety.specs.Rules.{emptyEntry, addressRule}
+use Rattle.safety.specs.Verdicts.{scan, verdictOn, verdictOf}
 use Rattle.report.specs.Report.{reportText}
-use Rattle.logger_cases.specs.Gathered.{upTo, certificateBytes, bytes-length, certificate-is}
-use Rattle.logger_cases.specs.Program.{imageWith, entry, cell, row, certificateWith, entry-length, cell-length, row-length}
+use Rattle.logger_cases.specs.Gathered.{upTo, bytes-length, certificate-is}
+use Rattle.logger_cases.specs.Computed.{layout, NoneBehind, verdict-by}
+use Rattle.logger_cases.specs.Program.{imageWith, entries, entry, cell, row, certificateWith, entry-length, cell-length, row-length}
 use Rattle.logger_cases.specs.Opened.{opened}
 
 -- CALL 0521H stands at 0A47H
@@ -120,35 +125,54 @@ certificate-tables bound floor = certificate-is entry cell (row bound) floor 0xC
 verdict-tables : (j bound floor : ℕ) → verdictOf (imageWith j) (certificateWith bound floor) ≡ verdictOn (tables bound floor) (imageWith j)
 unfolding verdictOf certificateWith
 verdict-tables j bound floor =
-    rw (image-length j, bytes-length entry cell (row bound) floor 0xC0 entry-length cell-length (row-length bound), certificate-is entry cell (row bound) floor 0xC0 entry-length cell-length (row-length bound))
+    rw (
+      image-length j,
+      bytes-length entry cell (row bound) floor 0xC0 entry-length cell-length (row-length bound),
+      certificate-is entry cell (row bound) floor 0xC0 entry-length cell-length (row-length bound),
+    )
 
-on-tables : (j bound floor : ℕ) (v : Verdict) (s : String) → verdictOn (tables bound floor) (imageWith j) ≡ v → reportText v (tables bound floor) ≡ ascii s
+-- where the code ends, and with it the entries
+abbrev codeEnd : ℕ
+codeEnd = 0x141
+
+empty-behind : (a : ℕ) → codeEnd ≤ a → entry a ≡ replicate 14 0
+unfolding entry
+empty-behind a h = choose-other (leb codeEnd) a entries (replicate 14 0) (le-leb codeEnd a h) refl
+
+behind-code : (bound floor : ℕ) → NoneBehind (tables bound floor) codeEnd
+unfolding certificateFrom addressRule emptyEntry
+behind-code bound floor a h = by-end (ltb a romLength) refl
+  where
+    by-end : (b : Bool) → ltb a romLength ≡ b → T (decide (addressRule (tables bound floor) a))
+    by-end true e = rw (e, empty-behind a h) tt
+    by-end false e = rw e tt
+
+on-tables : (j bound floor : ℕ) (v : Verdict) (s : String) → T (decide (layout (tables bound floor) (imageWith j) codeEnd))
+    → scan (tables bound floor) (imageWith j) romLength 0 ≡ v → reportText v (tables bound floor) ≡ ascii s
     → CaseHolds (judges (imageWith j) (certificateWith bound floor) v s)
-on-tables j bound floor v s p q = (
-  verdict-tables j bound floor ∙ p,
-  ap (λ w. reportText w (certificateOf (certificateWith bound floor))) (verdict-tables j bound floor ∙ p)
-      ∙ ap (reportText v) (certificate-tables bound floor) ∙ q,
-)
+on-tables j bound floor v s t e q =
+    let p = verdict-tables j bound floor ∙ verdict-by (tables bound floor) (imageWith j) codeEnd (behind-code bound floor) t e in
+    (p, ap (λ w. reportText w (certificateOf (certificateWith bound floor))) p ∙ ap (reportText v) (certificate-tables bound floor) ∙ q)
 
 case-i : CaseHolds (acceptedP 0xA0)
 unfolding opened
-case-i = on-tables 0x7B 364 0xA0 Accepted printedP refl refl
+case-i = on-tables 0x7B 364 0xA0 Accepted printedP tt refl refl
 
 case-j : CaseHolds (judges (imageWith 0x3B) (certificateWith 364 0xA0) (Refused 26 (romAddr 0x128)) "refused 26 0128\n")
 unfolding opened
-case-j = on-tables 0x3B 364 0xA0 (Refused 26 (romAddr 0x128)) "refused 26 0128\n" refl refl
+case-j = on-tables 0x3B 364 0xA0 (Refused 26 (romAddr 0x128)) "refused 26 0128\n" tt refl refl
 
 case-k : CaseHolds (judges (imageWith 0x7B) (certificateWith 363 0xA0) (Refused 27 (romAddr 0x120)) "refused 27 0120\n")
 unfolding opened
-case-k = on-tables 0x7B 363 0xA0 (Refused 27 (romAddr 0x120)) "refused 27 0120\n" refl refl
+case-k = on-tables 0x7B 363 0xA0 (Refused 27 (romAddr 0x120)) "refused 27 0120\n" tt refl refl
 
 case-l : CaseHolds (acceptedP 0xBB)
 unfolding opened
-case-l = on-tables 0x7B 364 0xBB Accepted printedP refl refl
+case-l = on-tables 0x7B 364 0xBB Accepted printedP tt refl refl
 
 case-l-refused : CaseHolds (judges (imageWith 0x7B) (certificateWith 364 0xBC) (Refused 25 (romAddr 0x100)) "refused 25 0100\n")
 unfolding opened
-case-l-refused = on-tables 0x7B 364 0xBC (Refused 25 (romAddr 0x100)) "refused 25 0100\n" refl refl
+case-l-refused = on-tables 0x7B 364 0xBC (Refused 25 (romAddr 0x100)) "refused 25 0100\n" tt refl refl
 
 case-g : CaseHolds (steps callImage 0xA47 0xB2 0xB0 0x0A) × CaseHolds (steps callImage 0xA47 0xB2 0xB1 0x4A)
 unfolding opened callImage stateAt resetState

@@ -3,15 +3,15 @@
 use mathlib.Core.Path.{_≡_, refl, sym, _∙_, ap, fun-ext}
 use mathlib.Core.Bool.{Bool, true, false}
 use mathlib.Core.List.{List, [], _∷_, _++_, append-assoc}
-use Prim.Native.Nat.{ℕ, zero, suc, _+_, _*_, _≤_, _<_}
+use Prim.Native.Nat.{ℕ, zero, suc, _+_, _*_, _<_}
 use native.Mathlib.Omega.{arith}
-use lib.Dec.{T, eqb, ltb, ltb→lt}
+use lib.Dec.{ltb, ltb→lt}
 use lib.ListN.{length, getD, take, drop, length-append}
 use lib.Seq.{drop-drop, drop-at, take-at, getD-drop}
 use Rattle.base.specs.Choice.{pick}
 use Rattle.base.specs.Formula.{of-true}
 use Rattle.base.specs.Lengths.{romLength, certificateLength}
-use Rattle.certificate.specs.Layout.{Certificate, certificateFrom, part, certificateOf}
+use Rattle.certificate.specs.Layout.{certificateFrom, part, certificateOf}
 
 -- what the table f gives for a, a + 1, .., n of them, one behind the other
 unfoldable pub gathered : ℕ → ℕ → (ℕ → List ℕ) → List ℕ

@@ -1,12 +1,12 @@
 -- Image P in the customer's words: on every run, whatever the interrupts do, the byte that the loop adds comes from registers 00H to 0FH.
 -- Assumes nothing.
-use mathlib.Core.Path.{_≡_, refl, sym, subst, _∙_, ap}
+use mathlib.Core.Path.{_≡_, sym, subst, _∙_, ap}
 use mathlib.Core.Logic.{_≢_}
-use mathlib.Core.Bool.{Bool, true, false, _&&_}
+use mathlib.Core.Bool.{Bool, true, _&&_}
 use mathlib.Core.List.{List, [], _∷_}
-use Prim.Native.Nat.{ℕ, zero, suc, _+_, _/_, _≤_, _<_}
+use Prim.Native.Nat.{ℕ, zero, suc, _+_, _/_, _<_}
 use native.Mathlib.Omega.{arith}
-use lib.Dec.{T, ltb, eqb}
+use lib.Dec.{T, ltb}
 use lib.ListN.{length, getD}
 use Rattle.base.specs.declared.RomAddr.{RomAddr}
 use Rattle.base.specs.Addresses.{regAddr}
@@ -90,16 +90,21 @@ unfolding placeOf
 small r rec = omega arith
 
 -- wherever a step runs it, its pointer gives a register below 10H
-pub gauges-in-table : (s : State) → IsReset s → (schedule : List ℕ) → Schedule (certificateOf certificate) image schedule → (k : ℕ)
+pub gauges-in-table : (s : State) → IsReset s → (schedule : List ℕ) → Schedule schedule → (k : ℕ)
     → k < length schedule / recordLength → (next : RomAddr)
-    → eventOf image (after k schedule 0 (fromReset (certificateOf certificate) image s) .state) (recordAt schedule k) ≡ executed addGauge next
-    → placeOf (requested (after k schedule 0 (fromReset (certificateOf certificate) image s) .state) (recordAt schedule k)) (recordAt schedule k) (Indirect (regAddr 0xC2) 0) .addr .0 < 16
+    → eventOf image (after k schedule 0 (fromReset s) .state) (recordAt schedule k) ≡ executed addGauge next
+    → placeOf (requested (after k schedule 0 (fromReset s) .state) (recordAt schedule k)) (recordAt schedule k) (Indirect (regAddr 0xC2) 0) .addr .0 < 16
 gauges-in-table s reset schedule sc k h next e =
-    let m = after k schedule 0 (fromReset (certificateOf certificate) image s) in
+    let C = certificateOf certificate in
+    let start = fromReset s in
+    let m = after k schedule 0 start in
+    let inputs = recordAt schedule k in
     let tables = demand-met .0 in
     let w = demand-met .1 s reset schedule sc .walk in
     let z : 0 + k ≡ k = omega arith in
-    let r : StepRight (certificateOf certificate) image tables m (recordAt schedule k) = subst (λ (j : ℕ). StepRight (certificateOf certificate) image tables m (recordAt schedule j)) z (walk-at (length schedule / recordLength) tables schedule 0 (fromReset (certificateOf certificate) image s) w k h) in
-    let p = subst (λ (x : Event). EventRight (certificateOf certificate) image tables m (recordAt schedule k) x (actedState (certificateOf certificate) image m (recordAt schedule k) .pc .0)) e (r .event) .pointers .1 in
-    table-is (placeOf (requested (m .state) (recordAt schedule k)) (recordAt schedule k) (Indirect (regAddr 0xC2) 0) .addr .0) (small (requested (m .state) (recordAt schedule k)) (recordAt schedule k))
-    (λ q. p .1 (sym (p .0) ∙ q))
+    let there = walk-at (length schedule / recordLength) tables schedule 0 start w k h in
+    let r : StepRight C image tables m inputs = subst (λ (j : ℕ). StepRight C image tables m (recordAt schedule j)) z there in
+    let to = actedState image m inputs .pc .0 in
+    let p = subst (λ (x : Event). EventRight C image tables m inputs x to) e (r .event) .pointers .1 in
+    let regs = requested (m .state) inputs in
+    table-is (placeOf regs inputs (Indirect (regAddr 0xC2) 0) .addr .0) (small regs inputs) (λ q. p .1 (sym (p .0) ∙ q))

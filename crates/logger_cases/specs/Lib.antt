@@ -1,4 +1,5 @@
 pub mod Cases
+pub mod Computed
 pub mod Gathered
 pub mod Gauges
 pub mod Opened

@@ -16,7 +16,7 @@ use semantics::Ran;
 use semantics::State;
 use semantics::Stepped;
 
-// The state at reset. RAM, FLAGS and SP, which a reset leaves open, are 0. It is one of the states that demand 3 speaks of.
+// The state at reset. What a reset leaves open (RAM, SP, the kept bits of FLAGS, F8H and F9H) is 0. It is one of the states that demand 3 speaks of.
 pub fn reset() -> State
     ensures { λ r. ⌜ r ≡ resetState ⌝ }
     ensures valid { λ r. ⌜ IsReset r ⌝ }

@@ -2,9 +2,11 @@
 // `bench/run` times it and prints a table; the gate's run is short and compares what each program leaves.
 use base::IMAGE_LENGTH;
 use base::RECORD_LENGTH;
-use bench_support::put;
-use libc::STDOUT_FILENO;
 use semantics::State;
+use test_support::print;
+use test_support::print_hex;
+use test_support::print_number;
+use test_support::put;
 
 // The records of one call of `run`, and their bytes.
 const PART: usize = 1000;
@@ -128,16 +130,16 @@ fn wide(x: u8) -> u64 {
 fn tell(what: u64, s: State) {
     let pc = s.pc;
     let regs = s.regs;
-    io::print_decimal(STDOUT_FILENO, what);
-    io::write_all(STDOUT_FILENO, b" ");
-    io::print_decimal(STDOUT_FILENO, s.cycles as u64);
-    io::write_all(STDOUT_FILENO, b" ");
-    io::print_hex(STDOUT_FILENO, pc.0 as u64, 4);
-    io::write_all(STDOUT_FILENO, b" ");
-    io::print_hex(STDOUT_FILENO, wide(regs[0xC4]), 2);
-    io::write_all(STDOUT_FILENO, b" ");
-    io::print_hex(STDOUT_FILENO, wide(regs[0xC6]), 2);
-    io::write_all(STDOUT_FILENO, b"\n");
+    print_number(what);
+    print(b" ");
+    print_number(s.cycles as u64);
+    print(b" ");
+    print_hex(pc.0 as u64, 4);
+    print(b" ");
+    print_hex(wide(regs[0xC4]), 2);
+    print(b" ");
+    print_hex(wide(regs[0xC6]), 2);
+    print(b"\n");
 }
 
 // 1 is a plain loop, 2 the mixed program, 3 the same with a request in one record of twelve, 4 to 13 are groups of instructions.
@@ -149,13 +151,13 @@ fn work(what: u64, count: u64) {
 fn argument(i: usize) -> u64 {
     let mut text = [0u8; 16];
     let n = os::arg(i, &mut text);
-    bench_support::number(&text[..n])
+    test_support::number(&text[..n])
 }
 
 // Two calls of `work` keep it a function of its own. With one the compiler puts it into `main`, and a step takes 3 in a hundred more instructions.
 fn main() {
     let count = argument(2);
-    let rows = bench_support::rows_of(argument(1), 13);
+    let rows = test_support::rows_of(argument(1), 13);
     let last = rows.last;
     let mut what = rows.first;
     work(what, count);

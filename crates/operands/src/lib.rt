@@ -8,16 +8,18 @@ ghost use Rattle.semantics.specs.Operands.{placeOf, fetchPlace, fetchOf, withFl
 ghost use Rattle.semantics.specs.Execute.{goesOn};
 use action::Operand;
 use alu::FlagUpdate;
+use base::FLAGS_INDEX;
 use base::RegAddr;
 use base::RomAddr;
 use chip::Inputs;
+use chip::Registers;
 use semantics::Fetched;
 use semantics::Mode;
 use semantics::Next;
 use semantics::Place;
 
 // The place of an operand; a number has none.
-pub fn place_of(regs: &[u8; 256], rec: &Inputs, o: Operand) -> Place
+pub fn place_of(regs: &Registers, rec: &Inputs, o: Operand) -> Place
     ensures { λ r. ⌜ r ≡ placeOf (now (regs .entry)) (now (rec .entry)) o ⌝ }
 {
     match o {
@@ -40,7 +42,7 @@ pub fn place_of(regs: &[u8; 256], rec: &Inputs, o: Operand) -> Place
 }
 
 // What stands at an operand's place.
-fn fetch_place(regs: &[u8; 256], rec: &Inputs, p: Place) -> Fetched
+fn fetch_place(regs: &Registers, rec: &Inputs, p: Place) -> Fetched
     ensures { λ r. ⌜ r ≡ fetchPlace (now (regs .entry)) (now (rec .entry)) p ⌝ }
 {
     let a = p.addr;
@@ -51,7 +53,7 @@ fn fetch_place(regs: &[u8; 256], rec: &Inputs, p: Place) -> Fetched
 }
 
 // An operand's byte.
-pub fn fetch(regs: &[u8; 256], rec: &Inputs, o: Operand) -> Fetched
+pub fn fetch(regs: &Registers, rec: &Inputs, o: Operand) -> Fetched
     ensures { λ r. ⌜ r ≡ fetchOf (now (regs .entry)) (now (rec .entry)) o ⌝ }
 {
     match o {
@@ -62,11 +64,11 @@ pub fn fetch(regs: &[u8; 256], rec: &Inputs, o: Operand) -> Fetched
 }
 
 // The flags that an instruction names are set over FLAGS.
-pub fn with_flags(regs: &mut [u8; 256], named: FlagUpdate)
+pub fn with_flags(regs: &mut Registers, named: FlagUpdate)
     ensures { λ _. ⌜ now (regs .exit) ≡ withFlags (now (regs .entry)) named ⌝ }
 {
-    let f = alu::update(regs[0xD5], named);
-    regs[0xD5] = f;
+    let f = alu::update(regs[FLAGS_INDEX], named);
+    regs[FLAGS_INDEX] = f;
 }
 
 // The register behind a.
@@ -84,7 +86,7 @@ pub fn word(high: u8, low: u8) -> u16
 }
 
 // The word at a register and the one behind it.
-pub fn word_at(regs: &[u8; 256], rec: &Inputs, a: RegAddr) -> u16
+pub fn word_at(regs: &Registers, rec: &Inputs, a: RegAddr) -> u16
     ensures { λ r. ⌜ r ≡ wordAt (now (regs .entry)) (now (rec .entry)) (a .0) ⌝ }
 {
     word(chip::load(regs, rec, a), chip::load(regs, rec, behind(a)))

@@ -7,11 +7,13 @@ use base::IMAGE_LENGTH;
 use base::RECORD_LENGTH;
 use base::RomAddr;
 use base::byte_at;
-use libc::STDOUT_FILENO;
 use semantics::Mode;
 use semantics::Ran;
 use semantics::State;
 use semantics::Stepped;
+use test_support::print;
+use test_support::print_hex;
+use test_support::store;
 
 // What the left side of a `=` names.
 enum Key {
@@ -123,7 +125,7 @@ fn pair(text: &[u8], at: usize) -> u8 {
 
 // Four hexadecimal digits.
 fn quad(text: &[u8], at: usize) -> u16 {
-    operands::word(pair(text, at), pair(text, plus(at, 2)))
+    test_support::word(pair(text, at), pair(text, plus(at, 2)))
 }
 
 // A decimal number of one or two digits.
@@ -189,19 +191,6 @@ fn key_of(text: &[u8], at: usize, end: usize) -> Key {
     word_key(byte_at(text, at))
 }
 
-// A ROM byte; past the end it is dropped.
-fn put_rom(image: &mut [u8; IMAGE_LENGTH], at: usize, v: u8) {
-    if at < IMAGE_LENGTH {
-        image[at] = v;
-    }
-}
-
-fn put_register(regs: &mut [u8; 256], at: usize, v: u8) {
-    if at < 256 {
-        regs[at] = v;
-    }
-}
-
 // FLAGS with one flag set or cleared.
 fn put_flag(regs: &mut [u8; 256], mask: u8, on: bool) {
     if on {
@@ -259,8 +248,8 @@ fn set(
 ) -> Rest {
     let mut r = rest;
     match key {
-        Key::Register(a) => put_register(regs, a as usize, pair(text, at)),
-        Key::Rom(a) => put_rom(image, a as usize, pair(text, at)),
+        Key::Register(a) => store(regs, a as usize, pair(text, at)),
+        Key::Rom(a) => store(image, a as usize, pair(text, at)),
         Key::Flag(m) => put_flag(regs, m, byte_at(text, at) == b'1'),
         Key::Counter => r.pc = quad(text, at),
         Key::Mode => r.mode = mode_number(byte_at(text, at)),
@@ -278,7 +267,7 @@ fn code(text: &[u8], at: usize, end: usize, image: &mut [u8; IMAGE_LENGTH], rest
         return rest;
     }
     if is_pair(text, at, end) {
-        put_rom(image, rest.behind as usize, pair(text, at));
+        store(image, rest.behind as usize, pair(text, at));
         let mut r = rest;
         r.behind = std::num::wrapping_add_u16(rest.behind, 1);
         return r;
@@ -520,7 +509,7 @@ fn example(text: &[u8], given: usize, at: usize, end: usize, open: u8) -> Differ
 fn print_part(text: &[u8], at: usize, end: usize) {
     if end <= text.len() {
         if at <= end {
-            io::write_all(STDOUT_FILENO, &text[at..end]);
+            print(&text[at..end]);
         }
     }
 }
@@ -528,31 +517,30 @@ fn print_part(text: &[u8], at: usize, end: usize) {
 // What a difference is about.
 fn print_place(place: usize) {
     match place {
-        256 => io::write_all(STDOUT_FILENO, b"program counter"),
-        257 => io::write_all(STDOUT_FILENO, b"mode"),
-        258 => io::write_all(STDOUT_FILENO, b"cycles"),
-        259 => io::write_all(STDOUT_FILENO, b"refusal"),
-        260 => io::write_all(STDOUT_FILENO, b"unreadable"),
+        256 => print(b"program counter"),
+        257 => print(b"mode"),
+        258 => print(b"cycles"),
+        259 => print(b"refusal"),
+        260 => print(b"unreadable"),
         _ => print_register(place),
     }
-    ;
 }
 
-fn print_register(place: usize) -> bool {
-    io::write_all(STDOUT_FILENO, b"register ");
-    io::print_hex(STDOUT_FILENO, place as u64, 2)
+fn print_register(place: usize) {
+    print(b"register ");
+    print_hex(place as u64, 2);
 }
 
 // Tells of an example that differs.
 fn tell(text: &[u8], at: usize, end: usize, d: Difference) {
     print_part(text, at, find(text, at, end, b':'));
-    io::write_all(STDOUT_FILENO, b"differs: ");
+    print(b"differs: ");
     print_place(d.place);
-    io::write_all(STDOUT_FILENO, b" found ");
-    io::print_hex(STDOUT_FILENO, d.found, 2);
-    io::write_all(STDOUT_FILENO, b" expected ");
-    io::print_hex(STDOUT_FILENO, d.expected, 2);
-    io::write_all(STDOUT_FILENO, b"\n");
+    print(b" found ");
+    print_hex(d.found, 2);
+    print(b" expected ");
+    print_hex(d.expected, 2);
+    print(b"\n");
 }
 
 // The difference with the open registers all zeros, or else with all ones.
@@ -619,12 +607,9 @@ fn lines(text: &[u8]) -> Walk {
 }
 
 fn main() {
-    let fd = os::open_read(b"examples.txt");
+    let fd = test_support::open(b"examples.txt");
     let mut buffer = io::large_buffer();
     let n = io::read_full(fd, &mut buffer);
     let walk = lines(&buffer[..n]);
-    io::print_decimal(STDOUT_FILENO, walk.compared);
-    io::write_all(STDOUT_FILENO, b" compared, ");
-    io::print_decimal(STDOUT_FILENO, walk.differ);
-    io::write_all(STDOUT_FILENO, b" differ\n");
+    test_support::print_counts(walk.compared, walk.differ);
 }

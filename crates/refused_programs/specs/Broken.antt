@@ -4,7 +4,7 @@
 use mathlib.Core.Path.{_≡_, refl, sym, subst}
 use mathlib.Core.Logic.{_≢_}
 use mathlib.Core.List.{List}
-use Prim.Native.Nat.{ℕ, zero, suc, _+_, _*_, _/_, _%_, _≤_, _<_}
+use Prim.Native.Nat.{ℕ, zero, suc, _+_, _*_, _/_, _≤_, _<_}
 use native.Mathlib.Omega.{arith}
 use lib.ListN.{length, replicate, length-replicate}
 use Rattle.base.specs.Addresses.{romAddr}
@@ -16,7 +16,8 @@ use Rattle.semantics.specs.Run.{recordAt}
 use Rattle.certificate.specs.declared.Verdict.the-variants.{Refused}
 use Rattle.safety.specs.Verdicts.{verdictOn}
 use Rattle.safety.specs.Statement.{Opener, byReset, byCall, byInterrupt, Demand3, StepRight, Monitored, Walk, fromReset, monitorStep}
-use Rattle.refused_programs.specs.Programs.{Program, certificate, stopping, straying, unnamed, pointing, pushing, returning, looping, charging, popping, fetching, resuming, serving, crossing, jumping, leaving}
+use Rattle.refused_programs.specs.Programs.{Program, certificate, stopping, straying, unnamed, pointing, pushing, returning, looping}
+use Rattle.refused_programs.specs.Programs.{charging, popping, fetching, resuming, serving, crossing, jumping, leaving}
 use Rattle.refused_programs.specs.Opened.{opened}
 use Rattle.refused_programs.specs.Computed.{verdict-is}
 
@@ -41,15 +42,15 @@ module _ (p : Program) where
   -- step k of the run from the reset state whose open bytes are 0; each byte of the schedule is 4, so each record requests the first external
   -- source's interrupt
   step : (d : Demand3 (certificate p) (p .image)) (k : ℕ)
-      → RightAt k (d .0) (replicate (recordLength * suc k) 4) 0 (fromReset (certificate p) (p .image) resetState)
+      → RightAt k (d .0) (replicate (recordLength * suc k) 4) 0 (fromReset resetState)
   step d k =
       let schedule : List ℕ = replicate (recordLength * suc k) 4 in
       let l = length-replicate {A = ℕ} (recordLength * suc k) 4 in
       let e : length schedule / recordLength ≡ suc k = omega arith in
       let b = filled-cells (λ (i x : ℕ). x < 256) (recordLength * suc k) 4 (λ (i : ℕ). omega arith) (λ (i : ℕ). omega arith) in
       let r = d .1 resetState reset-is-reset schedule (record { whole = omega arith; bytes = b }) in
-      right-at k (d .0) schedule 0 (fromReset (certificate p) (p .image) resetState)
-      (subst (λ (n : ℕ). Walk (certificate p) (p .image) n (d .0) schedule 0 (fromReset (certificate p) (p .image) resetState)) e (r .walk))
+      right-at k (d .0) schedule 0 (fromReset resetState)
+      (subst (λ (n : ℕ). Walk (certificate p) (p .image) n (d .0) schedule 0 (fromReset resetState)) e (r .walk))
 
 -- it stops
 pub stopping-breaks : Breaks stopping 22 0x100

@@ -6,10 +6,18 @@ use Rattle.semantics.specs.Step.{enterOf}
 use Rattle.semantics.specs.Reset.{resetState}
 use Rattle.chip.specs.Reset.{resetRegisters}
 use Rattle.safety.specs.Statement.{eventOf, monitorStep}
-use Rattle.rule20.specs.Parts.{cellsRule, startsRule, mainRule, serviceRule, fixedRule}
 use Rattle.logger_cases.specs.Opened.{opened as casesOpened}
-use Rattle.refused_programs.specs.Programs.{imageOf, stopping, straying, unnamed, pointing, pushing, returning, looping, charging, popping, fetching, resuming, serving, crossing, jumping, leaving}
+use Rattle.refused_programs.specs.Programs.{imageOf, stopping, straying, unnamed, pointing, pushing, returning, looping, charging}
+use Rattle.refused_programs.specs.Programs.{popping, fetching, resuming, serving, crossing, jumping, leaving}
+
+unfoldable programsOpened : ℕ
+unfolding imageOf stopping straying unnamed pointing pushing returning looping charging popping fetching resuming serving crossing jumping leaving
+programsOpened = 0
+
+unfoldable actionsOpened : ℕ
+unfolding binaryOf modifyOf loadInto pushOperand jumpOf returnOf popOperand codeAddress loadCodeOf interruptReturnOf jumpPairOf
+actionsOpened = 0
 
 unfoldable pub opened : ℕ
-unfolding casesOpened binaryOf modifyOf loadInto pushOperand jumpOf returnOf popOperand codeAddress loadCodeOf interruptReturnOf jumpPairOf enterOf resetState resetRegisters eventOf monitorStep cellsRule startsRule mainRule serviceRule fixedRule imageOf stopping straying unnamed pointing pushing returning looping charging popping fetching resuming serving crossing jumping leaving
+unfolding casesOpened programsOpened actionsOpened eventOf monitorStep enterOf resetState resetRegisters
 opened = 0

@@ -1,3 +1,4 @@
 pub mod Report
 pub mod Stored
 pub mod ReportLaws
+pub mod Refusals

@@ -1,9 +1,9 @@
--- Laws on the text that is printed: the recursions one step on, and lengths.
+-- Laws on the text that is printed: the recursions one step on, lengths, and a text that was stored whole.
 -- Assumes nothing.
 use Prim.Native.Nat.{ℕ, zero, suc, _+_, _-_, _*_, _/_, _%_, _≤_, _<_}
-use mathlib.Core.Path.{_≡_}
+use mathlib.Core.Path.{_≡_, refl}
 use mathlib.Core.Bool.{Bool, true, false}
-use mathlib.Core.List.{[], _∷_, _++_}
+use mathlib.Core.List.{List, [], _∷_, _++_}
 use native.Mathlib.Numerals.{add-one}
 use native.Mathlib.Nat.{not-suc-le-zero}
 use native.Mathlib.Omega.{arith}
@@ -12,11 +12,15 @@ use lib.ListN.{length, length-append}
 use borrow.Author.Tests.{lt-ltb, le-ltb}
 use Rattle.base.specs.Choice.{pick}
 use Rattle.base.specs.Formula.{decide}
+use Rattle.base.specs.Outcome.Outcome.{value}
+use Rattle.base.specs.Lengths.{isCertificateLength}
 use Rattle.certificate.specs.declared.Verdict.{Verdict}
 use Rattle.certificate.specs.declared.Verdict.the-variants.{Accepted, Refused}
-use Rattle.certificate.specs.Layout.{Certificate}
+use Rattle.certificate.specs.Layout.{Certificate, certificateOf}
 use Rattle.safety.specs.Rules.{used}
-use Rattle.report.specs.Report.{decimal, numberText, addressText, space, lineEnd, rowText, routineText, rowsText, acceptedWord, acceptedText, refusedText, reportText}
+use Rattle.report.specs.Report.{decimal, numberText, addressText, space, lineEnd}
+use Rattle.report.specs.Report.{rowText, routineText, rowsText, acceptedWord, acceptedText, refusedText, longestReport, reportText, reportAnswer, reportBuffer}
+use Rattle.report.specs.Stored.{Stored, stored-front}
 
 pub rowsText-more : (C : Certificate) (n : ℕ) → rowsText C (n + 1) ≡ rowsText C n ++ routineText C (n + 1)
 unfolding rowsText
@@ -87,3 +91,14 @@ refused-length number address =
 pub report-length : (verdict : Verdict) (C : Certificate) → length (reportText verdict C) ≤ 1143
 report-length Accepted C = accepted-length C
 report-length (Refused number address) C = refused-length number (address .0)
+
+-- a report's text that was stored from the front on is what the report answers and leaves
+pub report-stored : (verdict : Verdict) (cert : List ℕ) {next : ℕ} {out after : List ℕ} → isCertificateLength (length cert) ≡ true
+    → longestReport ≤ length out → Stored (reportText verdict (certificateOf cert)) 0 next out after
+    → (value next ≡ reportAnswer verdict cert (length out)) × (after ≡ reportBuffer verdict cert out)
+unfolding reportAnswer reportBuffer
+report-stored verdict cert {next} {out} {after} c h p =
+    let text = reportText verdict (certificateOf cert) in
+    let e : length text ≡ next = omega (arith, p .position) in
+    let fits : length text ≤ length out = omega (arith, report-length verdict (certificateOf cert), h) in
+    rw (c, le-ltb _ _ h, e) (refl, stored-front fits p)

@@ -1,3 +1,4 @@
 pub mod Copy
 pub mod EncodedDecodes
+pub mod Refusals
 pub mod RoundTrip

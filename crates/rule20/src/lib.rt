@@ -2,13 +2,25 @@
 ghost use mathlib.Core.Path.{_≡_};
 ghost use Rattle.base.specs.Choice.{pick};
 ghost use Rattle.base.specs.Formula.{decide, le, lt, _&_};
-ghost use Rattle.certificate.specs.Layout.{certificateOf};
-ghost use Rattle.safety.specs.Rules.{cellRule, claimRule, compareRule, emptyEntry, entryRule, addressRule, startRule, bareRule};
+ghost use Prim.Native.Nat.{ℕ};
+ghost use Rattle.certificate.specs.Layout.{Certificate, certificateOf};
+ghost use Rattle.entries.specs.Fields.{entryOf};
+ghost use Rattle.safety.specs.Rules.{sideAt, cellRule, claimRule, compareRule, emptyEntry, entryRule, addressRule, startRule, bareRule};
 ghost use Rattle.rule20.specs.Parts.{routineRule, boundRule, claimsRule, cellsRule, startsRule, addressesRule, mainRule, serviceRule, fixedRule};
 ghost use lib.Dec.{eqb};
 use base::RegAddr;
 use base::RomAddr;
 use entries::Claim;
+use entries::Entry;
+use entries::NO_CELL;
+use entries::ROUTINES;
+use entries::UNLOADED;
+
+// Where RAM ends.
+const RAM_END: u8 = 0xD0;
+
+// The greatest top of the stack.
+const TOP_LIMIT: u8 = 0xC0;
 
 // A row is used if it is not all zero.
 pub fn used(cert: &[u8], n: u8) -> bool
@@ -29,42 +41,41 @@ fn cell_rule(cert: &[u8], x: RegAddr) -> bool
     ensures { λ r. ⌜ r ≡ decide (cellRule (certificateOf (now (cert .entry))) (x .0)) ⌝ }
 {
     let row = entries::cell_row(cert, x);
-    let named = (x.0 == 0xD5) | ((x.0 == 0xD9) | ((x.0 == 0xDF) | !chip::mapped(x)));
+    let named = (x.0 == base::FLAGS)
+        | ((x.0 == base::SP) | ((x.0 == base::SYM) | !chip::mapped(x)));
     let reserved = in_stack(cert, x) | named;
     (row.class <= 3) & (!reserved | (row.class == 0) & (row.table == 0))
 }
 
 // A claimed or compared cell is RAM outside the stack, of the side's own class.
-fn claimable(cert: &[u8], a: RomAddr, x: RegAddr) -> bool
-    ensures { λ r. ⌜ r ≡ decide (Rattle.safety.specs.Rules.claimable (certificateOf (now (cert .entry))) (a .0) (x .0)) ⌝ }
+fn claimable(cert: &[u8], side: u8, x: RegAddr) -> bool
+    ensures { λ r. ⌜ ((a : ℕ) → side ≡ sideAt (certificateOf (now (cert .entry))) a → r ≡ decide (Rattle.safety.specs.Rules.claimable (certificateOf (now (cert .entry))) a (x .0))) ⌝ }
 {
-    let e = entries::entry_of(entries::entry_part(cert, a));
-    let row = entries::routine_row(cert, e.routine);
     let cell = entries::cell_row(cert, x);
-    (x.0 < 0xD0) & !in_stack(cert, x) & (cell.class == row.side)
+    (x.0 < RAM_END) & !in_stack(cert, x) & (cell.class == side)
 }
 
 // Of a claim low is at most high; of an absent one the other bytes are 0.
-fn claim_rule(cert: &[u8], a: RomAddr, k: Claim) -> bool
-    ensures { λ r. ⌜ r ≡ decide (claimRule (certificateOf (now (cert .entry))) (a .0) (k .cell .0) (k .low) (k .high)) ⌝ }
+fn claim_rule(cert: &[u8], side: u8, k: Claim) -> bool
+    ensures { λ r. ⌜ ((a : ℕ) → side ≡ sideAt (certificateOf (now (cert .entry))) a → r ≡ decide (claimRule (certificateOf (now (cert .entry))) a (k .cell .0) (k .low) (k .high))) ⌝ }
 {
-    let held = (k.low <= k.high) & claimable(cert, a, k.cell);
-    ((k.cell.0 == 255) | held) & ((k.cell.0 != 255) | (k.low == 0) & (k.high == 0))
+    let held = (k.low <= k.high) & claimable(cert, side, k.cell);
+    ((k.cell.0 == NO_CELL) | held) & ((k.cell.0 != NO_CELL) | (k.low == 0) & (k.high == 0))
 }
 
-fn compare_rule(cert: &[u8], a: RomAddr) -> bool
-    ensures { λ r. ⌜ r ≡ decide (compareRule (certificateOf (now (cert .entry))) (a .0)) ⌝ }
+fn compare_rule(cert: &[u8], side: u8, e: Entry) -> bool
+    ensures { λ r. ⌜ ((a : ℕ) → side ≡ sideAt (certificateOf (now (cert .entry))) a → e ≡ entryOf (certificateOf (now (cert .entry))) a
+        → r ≡ decide (compareRule (certificateOf (now (cert .entry))) a)) ⌝ }
 {
-    let e = entries::entry_of(entries::entry_part(cert, a));
-    let held = claimable(cert, a, e.compare.cell);
-    ((e.compare.cell.0 == 255) | held) & ((e.compare.cell.0 != 255) | (e.compare.number == 0))
+    let held = claimable(cert, side, e.compare.cell);
+    ((e.compare.cell.0 == NO_CELL) | held)
+        & ((e.compare.cell.0 != NO_CELL) | (e.compare.number == 0))
 }
 
 // No instruction starts here: all 14 bytes zero.
-fn empty_entry(cert: &[u8], a: RomAddr) -> bool
-    ensures { λ r. ⌜ r ≡ decide (emptyEntry (certificateOf (now (cert .entry))) (a .0)) ⌝ }
+fn empty_entry(e: Entry) -> bool
+    ensures { λ r. ⌜ ((C : Certificate) (a : ℕ) → e ≡ entryOf C a → r ≡ decide (emptyEntry C a)) ⌝ }
 {
-    let e = entries::entry_of(entries::entry_part(cert, a));
     let first = (e.first.cell.0 == 0) & (e.first.low == 0) & (e.first.high == 0);
     let second = (e.second.cell.0 == 0) & (e.second.low == 0) & (e.second.high == 0);
     let compare = (e.compare.cell.0 == 0) & (e.compare.number == 0);
@@ -73,46 +84,44 @@ fn empty_entry(cert: &[u8], a: RomAddr) -> bool
 }
 
 // An entry names a used routine; depth 255 is in main only.
-fn routine_rule(cert: &[u8], a: RomAddr) -> bool
-    ensures { λ r. ⌜ r ≡ decide (routineRule (certificateOf (now (cert .entry))) (a .0)) ⌝ }
+fn routine_rule(cert: &[u8], e: Entry) -> bool
+    ensures { λ r. ⌜ ((a : ℕ) → e ≡ entryOf (certificateOf (now (cert .entry))) a → r ≡ decide (routineRule (certificateOf (now (cert .entry))) a)) ⌝ }
 {
-    let e = entries::entry_of(entries::entry_part(cert, a));
-    let depth = (e.depth != 255) | (e.routine == 1);
-    (e.routine < 64) & used(cert, e.routine) & depth
+    let depth = (e.depth != UNLOADED) | (e.routine == 1);
+    (e.routine < ROUTINES) & used(cert, e.routine) & depth
 }
 
 // M only with a direction, and a direction only with a first claim; main has none of B, M, direction.
-fn bound_rule(cert: &[u8], a: RomAddr) -> bool
-    ensures { λ r. ⌜ r ≡ decide (boundRule (certificateOf (now (cert .entry))) (a .0)) ⌝ }
+fn bound_rule(e: Entry) -> bool
+    ensures { λ r. ⌜ ((C : Certificate) (a : ℕ) → e ≡ entryOf C a → r ≡ decide (boundRule C a)) ⌝ }
 {
-    let e = entries::entry_of(entries::entry_part(cert, a));
     let slope = (e.direction != 0) | (e.slope == 0);
-    let claim = (e.direction == 0) | (e.first.cell.0 != 255);
+    let claim = (e.direction == 0) | (e.first.cell.0 != NO_CELL);
     let none = (e.base == 0) & (e.slope == 0) & (e.direction == 0);
     (e.direction <= 2) & slope & claim & ((e.routine != 1) | none)
 }
 
 // The claims and the compare are as they should be, and the two claims distinct.
-fn claims_rule(cert: &[u8], a: RomAddr) -> bool
-    ensures { λ r. ⌜ r ≡ decide (claimsRule (certificateOf (now (cert .entry))) (a .0)) ⌝ }
+fn claims_rule(cert: &[u8], e: Entry) -> bool
+    ensures { λ r. ⌜ ((a : ℕ) → e ≡ entryOf (certificateOf (now (cert .entry))) a → r ≡ decide (claimsRule (certificateOf (now (cert .entry))) a)) ⌝ }
 {
-    let e = entries::entry_of(entries::entry_part(cert, a));
-    let first = claim_rule(cert, a, e.first);
-    let second = claim_rule(cert, a, e.second);
-    let distinct = (e.first.cell.0 == 255) | (e.first.cell.0 != e.second.cell.0);
-    first & (second & (distinct & compare_rule(cert, a)))
+    let row = entries::routine_row(cert, e.routine);
+    let first = claim_rule(cert, row.side, e.first);
+    let second = claim_rule(cert, row.side, e.second);
+    let distinct = (e.first.cell.0 == NO_CELL) | (e.first.cell.0 != e.second.cell.0);
+    first & (second & (distinct & compare_rule(cert, row.side, e)))
 }
 
-fn entry_rule(cert: &[u8], a: RomAddr) -> bool
-    ensures { λ r. ⌜ r ≡ decide (entryRule (certificateOf (now (cert .entry))) (a .0)) ⌝ }
+fn entry_rule(cert: &[u8], e: Entry) -> bool
+    ensures { λ r. ⌜ ((a : ℕ) → e ≡ entryOf (certificateOf (now (cert .entry))) a → r ≡ decide (entryRule (certificateOf (now (cert .entry))) a)) ⌝ }
 {
-    if !routine_rule(cert, a) {
+    if !routine_rule(cert, e) {
         return false;
     }
-    if !bound_rule(cert, a) {
+    if !bound_rule(e) {
         return false;
     }
-    if !claims_rule(cert, a) {
+    if !claims_rule(cert, e) {
         return false;
     }
     true
@@ -124,14 +133,14 @@ fn address_rule(cert: &[u8], a: RomAddr) -> bool
 {
     let e = entries::entry_of(entries::entry_part(cert, a));
     let n = e.routine;
-    ((n != 0) | empty_entry(cert, a)) & ((n == 0) | entry_rule(cert, a))
+    ((n != 0) | empty_entry(e)) & ((n == 0) | entry_rule(cert, e))
 }
 
 // The depth at the start of routine n.
 fn start_depth(n: u8) -> u8
     ensures { λ r. ⌜ r ≡ pick (eqb n 1) 255 0 ⌝ }
 {
-    if n == 1 { 255 } else { 0 }
+    if n == 1 { UNLOADED } else { 0 }
 }
 
 // Every start has its own routine's entry, depth 0 (main 255).
@@ -149,7 +158,7 @@ fn bare_rule(cert: &[u8], a: RomAddr) -> bool
     ensures { λ r. ⌜ r ≡ decide (bareRule (certificateOf (now (cert .entry))) (a .0)) ⌝ }
 {
     let e = entries::entry_of(entries::entry_part(cert, a));
-    (e.first.cell.0 == 255) & (e.second.cell.0 == 255) & (e.compare.cell.0 == 255)
+    (e.first.cell.0 == NO_CELL) & (e.second.cell.0 == NO_CELL) & (e.compare.cell.0 == NO_CELL)
 }
 
 fn cells_rule(cert: &[u8]) -> bool
@@ -169,7 +178,7 @@ fn starts_rule(cert: &[u8]) -> bool
     ensures { λ r. ⌜ r ≡ decide (startsRule (certificateOf (now (cert .entry)))) ⌝ }
 {
     let mut n: u8 = 0;
-    while n < 64 {
+    while n < ROUTINES {
         if !start_rule(cert, n) {
             return false;
         }
@@ -215,7 +224,7 @@ fn fixed_rule(image: &[u8], cert: &[u8]) -> bool
 {
     let floor = entries::stack_floor(cert);
     let top = entries::stack_top(cert);
-    (floor < top) & (top <= 0xC0) & main_rule(cert) & service_rule(image, cert)
+    (floor < top) & (top <= TOP_LIMIT) & main_rule(cert) & service_rule(image, cert)
 }
 
 // Rule 20.

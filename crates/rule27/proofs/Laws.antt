@@ -1,16 +1,15 @@
 -- What the code of rule 27 holds means what the rule says.
 -- Assumes nothing.
 use Prim.Native.Nat.{ℕ, _+_, _-_, _≤_}
-use mathlib.Core.Path.{_≡_, refl, sym, subst, ap, _∙_}
+use mathlib.Core.Path.{_≡_, refl, sym, subst, _∙_}
 use mathlib.Core.Logic.{inl, inr, ⊎-elim, _≢_}
 use mathlib.Core.Bool.{Bool, true, false, _&&_}
-use lib.Dec.{T, eqb, ltb, leb}
+use lib.Dec.{T, ltb, leb}
 use native.Mathlib.Nat.{zero-add}
 use native.Mathlib.Omega.{arith}
 use borrow.Author.Tests.{eq-eqb, ne-eqb}
 use Rattle.base.specs.Choice.{pick}
-use Rattle.base.specs.Formula.{Formula, Holds, decide, le, same?}
-use Rattle.certificate.specs.declared.NewValue.{NewValue}
+use Rattle.base.specs.Formula.{Holds, decide, le, same?}
 use Rattle.certificate.specs.declared.NewValue.the-variants.{Number, OneMore, OneLess, AtMost, CopyOf, Unknown}
 use Rattle.certificate.specs.declared.Write.{Write}
 use Rattle.certificate.specs.Layout.{Certificate}
@@ -22,7 +21,7 @@ use Rattle.claims.specs.declared.Change.{Change}
 use Rattle.claims.specs.declared.Change.the-variants.{Unchanged, Changed}
 use Rattle.claims.specs.Bounds.{boundFrom, worstFrom}
 use Rattle.claims.specs.Laws.{decide-same}
-use Rattle.claims.specs.Values.{among, valuesOf, changeIn, left-among, among-left}
+use Rattle.claims.specs.Values.{among, changeIn, left-among, among-left}
 use Rattle.rule27.specs.declared.After.{After}
 use Rattle.rule27.specs.declared.After.the-variants as after
 use Rattle.rule27.specs.Paid.{afterOf, alongOf, firstValuesOf, allPaid}

@@ -1,27 +1,21 @@
 -- Parts of rule 27: what comes after an instruction, and the values of the first claimed cell.
 -- Assumes nothing.
-use Prim.Native.Nat.{ℕ, _+_, _-_, _≤_}
-use mathlib.Core.Path.{_≡_, refl, sym, subst, ap}
-use mathlib.Core.Logic.{inl, inr, ⊎-elim}
-use mathlib.Core.Bool.{Bool, true, false}
+use Prim.Native.Nat.{ℕ, _+_, _-_}
+use mathlib.Core.Bool.{false}
 use lib.Dec.{eqb, ltb}
-use native.Mathlib.Nat.{zero-add}
 use Rattle.base.specs.Choice.{pick}
-use Rattle.base.specs.Formula.{Formula, Holds, decide, le, _⇒_, forallBelow}
-use Rattle.certificate.specs.declared.NewValue.{NewValue}
+use Rattle.base.specs.Formula.{Formula, le, _⇒_, forallBelow}
 use Rattle.certificate.specs.declared.NewValue.the-variants.{Number, OneMore, OneLess, AtMost, CopyOf, Unknown}
 use Rattle.certificate.specs.declared.Flow.{Flow}
 use Rattle.certificate.specs.Layout.{Certificate}
 use Rattle.safety.specs.Rules as rules
-use Rattle.safety.specs.Rules.{calls, ends, paid, plainEdge, boundAt, worst, boundAlong, boundAfterCall}
+use Rattle.safety.specs.Rules.{calls, ends, paid, plainEdge, boundAfterCall}
 use Rattle.entries.specs.declared.Entry.{Entry}
-use Rattle.entries.specs.Fields.{entryOf}
 use Rattle.claims.specs.declared.Change.{Change}
 use Rattle.claims.specs.declared.Change.the-variants.{Unchanged, Changed}
 use Rattle.claims.specs.declared.Values.{Values}
 use Rattle.claims.specs.Bounds.{boundFrom, worstFrom}
-use Rattle.claims.specs.Laws.{decide-same}
-use Rattle.claims.specs.Values.{among, valuesOf, changeIn}
+use Rattle.claims.specs.Values.{among, valuesOf}
 use Rattle.rule27.specs.declared.After.{After}
 use Rattle.rule27.specs.declared.After.the-variants as after
 

@@ -5,8 +5,9 @@ ghost use lib.Dec.{leb};
 ghost use mathlib.Core.Bool.{true, false};
 ghost use Rattle.base.specs.Choice.{pick};
 ghost use Rattle.base.specs.Formula.{decide, neg, eq, _⇒_};
-ghost use Rattle.certificate.specs.Layout.{certificateOf};
-ghost use Rattle.safety.specs.Rules.{sameFirst, boundAfter, boundAfterCall, rowRule, edges, calls, ends, plainEdge};
+ghost use Rattle.certificate.specs.Layout.{Certificate, certificateOf};
+ghost use Rattle.entries.specs.Fields.{entryOf};
+ghost use Rattle.safety.specs.Rules.{sameFirst, boundAfter, boundAfterCall, rowRule, edges, plainEdge};
 ghost use Rattle.claims.specs.Values.{edgeOf};
 ghost use Rattle.rule27.specs.Paid.{oneMoreValue, oneLessValue, afterOf, alongOf, firstValuesOf, paidAt, allPaid};
 use base::RegAddr;
@@ -19,6 +20,7 @@ use claims::Change;
 use claims::Edge;
 use claims::Values;
 use entries::Entry;
+use entries::NO_CELL;
 
 // What comes after an instruction: nothing; a callee's bound, and a successor's worst or its bound for the same value of the first claimed cell; a
 // successor's bound for a value one more, or one less.
@@ -97,10 +99,10 @@ fn all_paid(s: Values, e: Entry, cost: u8, f: After) -> bool
 }
 
 // The values of the first claimed cell x that are left on an edge; without a first claim there is one case.
-fn first_values(cert: &[u8], a: RomAddr, e: Edge, x: RegAddr) -> Values
-    ensures { λ r. ⌜ r ≡ firstValuesOf (certificateOf (now (cert .entry))) (a .0) (edgeOf e) (x .0) ⌝ }
+fn first_values(n: Entry, e: Edge, x: RegAddr) -> Values
+    ensures { λ r. ⌜ ((C : Certificate) (a : ℕ) → n ≡ entryOf C a → r ≡ firstValuesOf C a (edgeOf e) (x .0)) ⌝ }
 {
-    if x.0 == 255 {
+    if x.0 == NO_CELL {
         return Values {
             low: 0,
             high: 0,
@@ -110,27 +112,24 @@ fn first_values(cert: &[u8], a: RomAddr, e: Edge, x: RegAddr) -> Values
             number: 0,
         };
     }
-    claims::values_left(cert, a, e, x)
+    claims::values_left(n, e, x)
 }
 
 // For each c left on the edge: cost and what comes after within the entry's bound. Main is exempt.
-fn paid(cert: &[u8], a: RomAddr, e: Edge, cost: u8, f: After) -> bool
-    ensures { λ r. ⌜ r ≡ decide (Rattle.safety.specs.Rules.paid (certificateOf (now (cert .entry))) (a .0) (edgeOf e) cost (afterOf f)) ⌝ }
+fn paid(n: Entry, e: Edge, cost: u8, f: After) -> bool
+    ensures { λ r. ⌜ ((C : Certificate) (a : ℕ) → n ≡ entryOf C a → r ≡ decide (Rattle.safety.specs.Rules.paid C a (edgeOf e) cost (afterOf f))) ⌝ }
 {
-    let n = entries::entry_of(entries::entry_part(cert, a));
     if n.routine == 1 {
         return true;
     }
-    all_paid(first_values(cert, a, e, n.first.cell), n, cost, f)
+    all_paid(first_values(n, e, n.first.cell), n, cost, f)
 }
 
 // Both have the same first cell.
-fn same_first(cert: &[u8], a: RomAddr, t: RomAddr) -> bool
-    ensures { λ r. ⌜ r ≡ sameFirst (certificateOf (now (cert .entry))) (a .0) (t .0) ⌝ }
+fn same_first(n: Entry, t: Entry) -> bool
+    ensures { λ r. ⌜ ((C : Certificate) (a b : ℕ) → n ≡ entryOf C a → t ≡ entryOf C b → r ≡ sameFirst C a b) ⌝ }
 {
-    let own = entries::entry_of(entries::entry_part(cert, a));
-    let to = entries::entry_of(entries::entry_part(cert, t));
-    (to.first.cell.0 == own.first.cell.0) & (own.first.cell.0 != 255)
+    (t.first.cell.0 == n.first.cell.0) & (n.first.cell.0 != NO_CELL)
 }
 
 // c goes along if the cell is unwritten, or stepped by INC or DEC; else the successor's worst counts.
@@ -150,15 +149,14 @@ fn along(c: Change, e: Entry) -> After
     }
 }
 
-fn after_edge(cert: &[u8], a: RomAddr, w: Write, t: RomAddr) -> After
-    ensures { λ r. ⌜ ((c : ℕ) → afterOf r c ≡ boundAfter (certificateOf (now (cert .entry))) (a .0) w (t .0) c) ⌝ }
+// What comes after an edge from entry n to entry t.
+fn after_edge(n: Entry, w: Write, t: Entry) -> After
+    ensures { λ r. ⌜ ((C : Certificate) (a b c : ℕ) → n ≡ entryOf C a → t ≡ entryOf C b → afterOf r c ≡ boundAfter C a w b c) ⌝ }
 {
-    let to = entries::entry_of(entries::entry_part(cert, t));
-    if !same_first(cert, a, t) {
-        return After::Worst(0, to);
+    if !same_first(n, t) {
+        return After::Worst(0, t);
     }
-    let own = entries::entry_of(entries::entry_part(cert, a));
-    along(claims::change_of(cert, a, w, own.first.cell), to)
+    along(claims::change_of(n, w, n.first.cell), t)
 }
 
 fn after_callee(kept: bool, bound: u16, e: Entry) -> After
@@ -172,34 +170,32 @@ fn after_callee(kept: bool, bound: u16, e: Entry) -> After
 }
 
 // The callee's bound, and behind CALL c goes along if no callee can write the cell.
-fn after_call(cert: &[u8], a: RomAddr, next: RomAddr, t: RomAddr) -> After
-    ensures { λ r. ⌜ ((c : ℕ) → afterOf r c ≡ boundAfterCall (certificateOf (now (cert .entry))) (a .0) (next .0) (t .0) c) ⌝ }
+fn after_call(cert: &[u8], n: Entry, next: RomAddr, t: RomAddr) -> After
+    ensures { λ r. ⌜ ((a c : ℕ) → n ≡ entryOf (certificateOf (now (cert .entry))) a → afterOf r c ≡ boundAfterCall (certificateOf (now (cert .entry))) a (next .0) (t .0) c) ⌝ }
 {
     let to = entries::entry_of(entries::entry_part(cert, t));
+    let behind = entries::entry_of(entries::entry_part(cert, next));
     let callee = entries::routine_row(cert, to.routine);
-    let own = entries::entry_of(entries::entry_part(cert, a));
-    let cell = entries::cell_row(cert, own.first.cell);
-    let kept = same_first(cert, a, next) & (cell.limit < to.routine);
-    after_callee(
-        kept,
-        callee.bound,
-        entries::entry_of(entries::entry_part(cert, next)),
-    )
+    let cell = entries::cell_row(cert, n.first.cell);
+    let kept = same_first(n, behind) & (cell.limit < to.routine);
+    after_callee(kept, callee.bound, behind)
 }
 
-fn edge27(cert: &[u8], a: RomAddr, s: Summary, cost: u8, e: Edge) -> bool
-    ensures { λ r. ⌜ r ≡ decide (Rattle.safety.specs.Rules.edge27 (certificateOf (now (cert .entry))) (a .0) s cost (edgeOf e)) ⌝ }
+fn edge27(cert: &[u8], n: Entry, s: Summary, cost: u8, e: Edge) -> bool
+    ensures { λ r. ⌜ ((a : ℕ) → n ≡ entryOf (certificateOf (now (cert .entry))) a → r ≡ decide (Rattle.safety.specs.Rules.edge27 (certificateOf (now (cert .entry))) a s cost (edgeOf e))) ⌝ }
 {
-    if !claims::feasible(cert, a, e) {
+    if !claims::feasible(n, e) {
         return true;
     }
     let w = s.write;
-    paid(cert, a, e, cost, after_edge(cert, a, w, e.to))
+    let t = entries::entry_of(entries::entry_part(cert, e.to));
+    paid(n, e, cost, after_edge(n, w, t))
 }
 
 // The edge behind the instruction, unless the condition always holds.
-fn behind27(cert: &[u8], a: RomAddr, s: Summary, cost: u8, cc: u8, next: RomAddr) -> bool
-    ensures { λ r. ⌜ r ≡ decide (neg (eq cc 8) ⇒ Rattle.safety.specs.Rules.edge27 (certificateOf (now (cert .entry))) (a .0) s cost (record { condition = cc; outcome = false; to = next .0 })) ⌝ }
+fn behind27(cert: &[u8], n: Entry, s: Summary, cost: u8, cc: u8, next: RomAddr) -> bool
+    ensures { λ r. ⌜ ((a : ℕ) → n ≡ entryOf (certificateOf (now (cert .entry))) a →
+        r ≡ decide (neg (eq cc 8) ⇒ Rattle.safety.specs.Rules.edge27 (certificateOf (now (cert .entry))) a s cost (record { condition = cc; outcome = false; to = next .0 }))) ⌝ }
 {
     if cc == 8 {
         return true;
@@ -209,12 +205,13 @@ fn behind27(cert: &[u8], a: RomAddr, s: Summary, cost: u8, cc: u8, next: RomAddr
         outcome: false,
         to: next,
     };
-    edge27(cert, a, s, cost, e)
+    edge27(cert, n, s, cost, e)
 }
 
 // The edge of the jump, unless the condition never holds.
-fn jump27(cert: &[u8], a: RomAddr, s: Summary, cost: u8, cc: u8, to: RomAddr) -> bool
-    ensures { λ r. ⌜ r ≡ decide (neg (eq cc 0) ⇒ Rattle.safety.specs.Rules.edge27 (certificateOf (now (cert .entry))) (a .0) s cost (record { condition = cc; outcome = true; to = to .0 })) ⌝ }
+fn jump27(cert: &[u8], n: Entry, s: Summary, cost: u8, cc: u8, to: RomAddr) -> bool
+    ensures { λ r. ⌜ ((a : ℕ) → n ≡ entryOf (certificateOf (now (cert .entry))) a →
+        r ≡ decide (neg (eq cc 0) ⇒ Rattle.safety.specs.Rules.edge27 (certificateOf (now (cert .entry))) a s cost (record { condition = cc; outcome = true; to = to .0 }))) ⌝ }
 {
     if cc == 0 {
         return true;
@@ -224,47 +221,47 @@ fn jump27(cert: &[u8], a: RomAddr, s: Summary, cost: u8, cc: u8, to: RomAddr) ->
         outcome: true,
         to: to,
     };
-    edge27(cert, a, s, cost, e)
+    edge27(cert, n, s, cost, e)
 }
 
-fn call27(cert: &[u8], a: RomAddr, cost: u8, next: RomAddr, t: RomAddr) -> bool
-    ensures { λ r. ⌜ r ≡ decide (Rattle.safety.specs.Rules.paid (certificateOf (now (cert .entry))) (a .0) (plainEdge (next .0)) cost (boundAfterCall (certificateOf (now (cert .entry))) (a .0) (next .0) (t .0))) ⌝ }
+fn call27(cert: &[u8], n: Entry, cost: u8, next: RomAddr, t: RomAddr) -> bool
+    ensures { λ r. ⌜ ((a : ℕ) → n ≡ entryOf (certificateOf (now (cert .entry))) a →
+        r ≡ decide (Rattle.safety.specs.Rules.paid (certificateOf (now (cert .entry))) a (plainEdge (next .0)) cost (boundAfterCall (certificateOf (now (cert .entry))) a (next .0) (t .0)))) ⌝ }
 {
     let e = Edge {
         condition: 8,
         outcome: true,
         to: next,
     };
-    paid(cert, a, e, cost, after_call(cert, a, next, t))
+    paid(n, e, cost, after_call(cert, n, next, t))
 }
 
-fn return27(cert: &[u8], a: RomAddr, cost: u8) -> bool
-    ensures { λ r. ⌜ r ≡ decide (Rattle.safety.specs.Rules.paid (certificateOf (now (cert .entry))) (a .0) (plainEdge 0) cost (λ c. 0)) ⌝ }
+fn return27(n: Entry, cost: u8) -> bool
+    ensures { λ r. ⌜ ((C : Certificate) (a : ℕ) → n ≡ entryOf C a → r ≡ decide (Rattle.safety.specs.Rules.paid C a (plainEdge 0) cost (λ c. 0))) ⌝ }
 {
     let e = Edge {
         condition: 8,
         outcome: true,
         to: RomAddr(0),
     };
-    paid(cert, a, e, cost, After::Nothing)
+    paid(n, e, cost, After::Nothing)
 }
 
 // A row's bound is at least its start's worst.
-fn row_rule(cert: &[u8], a: RomAddr) -> bool
-    ensures { λ r. ⌜ r ≡ decide (rowRule (certificateOf (now (cert .entry))) (a .0)) ⌝ }
+fn row_rule(cert: &[u8], a: RomAddr, n: Entry) -> bool
+    ensures { λ r. ⌜ (n ≡ entryOf (certificateOf (now (cert .entry))) (a .0) → r ≡ decide (rowRule (certificateOf (now (cert .entry))) (a .0))) ⌝ }
 {
-    let e = entries::entry_of(entries::entry_part(cert, a));
-    let row = entries::routine_row(cert, e.routine);
-    let worst = claims::worst(e);
-    (e.routine == 1) | ((row.start.0 != a.0) | (worst <= row.bound as u32))
+    let row = entries::routine_row(cert, n.routine);
+    let worst = claims::worst(n);
+    (n.routine == 1) | ((row.start.0 != a.0) | (worst <= row.bound as u32))
 }
 
-fn edges27(cert: &[u8], a: RomAddr, s: Summary, f: Flow, cost: u8, next: RomAddr) -> bool
-    ensures { λ r. ⌜ r ≡ decide (edges f (next .0) (Rattle.safety.specs.Rules.edge27 (certificateOf (now (cert .entry))) (a .0) s cost)) ⌝ }
+fn edges27(cert: &[u8], n: Entry, s: Summary, f: Flow, cost: u8, next: RomAddr) -> bool
+    ensures { λ r. ⌜ ((a : ℕ) → n ≡ entryOf (certificateOf (now (cert .entry))) a → r ≡ decide (edges f (next .0) (Rattle.safety.specs.Rules.edge27 (certificateOf (now (cert .entry))) a s cost))) ⌝ }
 {
     match f {
-        Flow::Step(cc, to) => behind27(cert, a, s, cost, cc, next)
-            & jump27(cert, a, s, cost, cc, to),
+        Flow::Step(cc, to) => behind27(cert, n, s, cost, cc, next)
+            & jump27(cert, n, s, cost, cc, to),
         Flow::Call(_) => true,
         Flow::Return => true,
         Flow::InterruptReturn => true,
@@ -272,26 +269,26 @@ fn edges27(cert: &[u8], a: RomAddr, s: Summary, f: Flow, cost: u8, next: RomAddr
     }
 }
 
-fn calls27(cert: &[u8], a: RomAddr, f: Flow, cost: u8, next: RomAddr) -> bool
-    ensures { λ r. ⌜ r ≡ decide (Rattle.rule27.specs.Paid.calls27 (certificateOf (now (cert .entry))) (a .0) f cost (next .0)) ⌝ }
+fn calls27(cert: &[u8], n: Entry, f: Flow, cost: u8, next: RomAddr) -> bool
+    ensures { λ r. ⌜ ((a : ℕ) → n ≡ entryOf (certificateOf (now (cert .entry))) a → r ≡ decide (Rattle.rule27.specs.Paid.calls27 (certificateOf (now (cert .entry))) a f cost (next .0))) ⌝ }
 {
     match f {
         Flow::Step(_, _) => true,
-        Flow::Call(to) => call27(cert, a, cost, next, to),
+        Flow::Call(to) => call27(cert, n, cost, next, to),
         Flow::Return => true,
         Flow::InterruptReturn => true,
         Flow::Forbidden => true,
     }
 }
 
-fn ends27(cert: &[u8], a: RomAddr, f: Flow, cost: u8) -> bool
-    ensures { λ r. ⌜ r ≡ decide (Rattle.rule27.specs.Paid.ends27 (certificateOf (now (cert .entry))) (a .0) f cost) ⌝ }
+fn ends27(n: Entry, f: Flow, cost: u8) -> bool
+    ensures { λ r. ⌜ ((C : Certificate) (a : ℕ) → n ≡ entryOf C a → r ≡ decide (Rattle.rule27.specs.Paid.ends27 C a f cost)) ⌝ }
 {
     match f {
         Flow::Step(_, _) => true,
         Flow::Call(_) => true,
-        Flow::Return => return27(cert, a, cost),
-        Flow::InterruptReturn => return27(cert, a, cost),
+        Flow::Return => return27(n, cost),
+        Flow::InterruptReturn => return27(n, cost),
         Flow::Forbidden => true,
     }
 }
@@ -300,7 +297,8 @@ fn ends27(cert: &[u8], a: RomAddr, f: Flow, cost: u8) -> bool
 pub fn rule27(cert: &[u8], a: RomAddr, s: Summary, cost: u8, next: RomAddr) -> bool
     ensures { λ r. ⌜ r ≡ decide (Rattle.safety.specs.Rules.rule27 (certificateOf (now (cert .entry))) (a .0) s cost (next .0)) ⌝ }
 {
+    let n = entries::entry_of(entries::entry_part(cert, a));
     let flow = s.flow;
-    let rest = ends27(cert, a, flow, cost) & row_rule(cert, a);
-    edges27(cert, a, s, flow, cost, next) & (calls27(cert, a, flow, cost, next) & rest)
+    let rest = ends27(n, flow, cost) & row_rule(cert, a, n);
+    edges27(cert, n, s, flow, cost, next) & (calls27(cert, n, flow, cost, next) & rest)
 }

@@ -1,2 +1,1 @@
 pub mod Flows
-pub mod Tables

@@ -6,7 +6,8 @@ use mathlib.Core.Bool.{Bool, true, false}
 use mathlib.Core.List.{List, [], _∷_}
 use Prim.Native.Nat.{ℕ, zero, suc, _+_, _≤_, _<_}
 use native.Mathlib.Omega.{arith}
-use lib.Dec.{T, eqb, eqb→eq}
+use lib.Dec.{eqb}
+use borrow.Author.Tests.{eqb-true, eqb-false}
 use Rattle.base.specs.declared.RomAddr.{RomAddr}
 use Rattle.base.specs.Addresses.{romAddr}
 use Rattle.base.specs.Formula.{Formula, Holds, decide, sound, of-true, same?}
@@ -30,21 +31,21 @@ abbrev pub Every : List Rule → Type 0
 Every [] = Unit {0}
 Every (q ∷ qs) = Holds (q .formula) × Every qs
 
--- no rule's number is 0
-abbrev Numbered : List Rule → Type 0
-Numbered [] = Unit {0}
-Numbered (q ∷ qs) = (1 ≤ q .number) × Numbered qs
+-- the numbers of a list ascend, from above m
+abbrev pub Ascends : ℕ → List Rule → Type 0
+Ascends m [] = Unit {0}
+Ascends m (q ∷ qs) = (m < q .number) × Ascends (q .number) qs
 
-none-first : (b : Bool) (f : Formula) (n k : ℕ) → decide f ≡ b → 1 ≤ n → _≡_ {A = ℕ} (elim b [ true ↦ k | false ↦ n ]) 0 → Holds f × (k ≡ 0)
-none-first true f n k e p h = (sound f (of-true (decide f) e), h)
-none-first false f n k e p h = absurd (omega arith)
+none-first : (b : Bool) (f : Formula) (m n k : ℕ) → decide f ≡ b → m < n → _≡_ {A = ℕ} (elim b [ true ↦ k | false ↦ n ]) 0 → Holds f × (k ≡ 0)
+none-first true f m n k e p h = (sound f (of-true (decide f) e), h)
+none-first false f m n k e p h = absurd (omega arith)
 
-none-broken : (qs : List Rule) → Numbered qs → firstBroken qs ≡ 0 → Every qs
+none-broken : (qs : List Rule) (m : ℕ) → Ascends m qs → firstBroken qs ≡ 0 → Every qs
 unfolding firstBroken
-none-broken [] p h = tt
-none-broken (q ∷ qs) p h =
-    let z = none-first (decide (q .formula)) (q .formula) (q .number) (firstBroken qs) refl (p .0) h in
-    (z .0, none-broken qs (p .1) (z .1))
+none-broken [] m p h = tt
+none-broken (q ∷ qs) m p h =
+    let z = none-first (decide (q .formula)) (q .formula) m (q .number) (firstBroken qs) refl (p .0) h in
+    (z .0, none-broken qs (q .number) (p .1) (z .1))
 
 -- rules 21 to 27 at an address
 pub record RulesHold (C : Certificate) (image : List ℕ) (a : ℕ) : Type 0 where
@@ -69,26 +70,67 @@ named C image a e =
       r27 = e .1 .1 .1 .1 .1 .1 .0;
     }
 
-zero-number : (C : Certificate) (image : List ℕ) (a : ℕ) (b : Bool) → eqb (C .routine a) 0 ≡ b → C .routine a ≢ 0
-    → _≡_ {A = ℕ} (elim b [ true ↦ 0 | false ↦ firstBroken (rulesAt C image a) ]) 0 → RulesHold C image a
-unfolding rulesOn
-zero-number C image a true e n h = absurd (n (eqb→eq (C .routine a) 0 (of-true (eqb (C .routine a) 0) e)))
-zero-number C image a false e n h =
-    named C image a (none-broken (rulesAt C image a) (omega arith, (omega arith, (omega arith, (omega arith, (omega arith, (omega arith, (omega arith, tt))))))) h)
+module _ (C : Certificate) (image : List ℕ) where
+  pub ascending : (a : ℕ) → Ascends 20 (rulesAt C image a)
+  unfolding rulesOn
+  ascending a = (omega arith, (omega arith, (omega arith, (omega arith, (omega arith, (omega arith, (omega arith, tt)))))))
 
-scan-first : (b : Bool) (n : ℕ) (a : ℕ) (v : Verdict) → eqb n 0 ≡ b
-    → _≡_ {A = Verdict} (elim b [ true ↦ v | false ↦ Refused n (romAddr a) ]) Accepted → (n ≡ 0) × (v ≡ Accepted)
-scan-first true n a v e h = (eqb→eq n 0 (of-true (eqb n 0) e), h)
-scan-first false n a v e h = absurd (never-refused n (romAddr a) h)
+  -- where the number at an address with an entry is 0, every rule holds
+  pub number-every : (a : ℕ) → numberAt C image a ≡ 0 → C .routine a ≢ 0 → Every (rulesAt C image a)
+  unfolding numberAt
+  number-every a z r = on (eqb (C .routine a) 0) refl z
+    where
+      on : (b : Bool) → eqb (C .routine a) 0 ≡ b → _≡_ {A = ℕ} (elim b [ true ↦ 0 | false ↦ firstBroken (rulesAt C image a) ]) 0
+          → Every (rulesAt C image a)
+      on true e z = absurd (r (eqb-true (C .routine a) 0 e))
+      on false e z = none-broken (rulesAt C image a) 20 (ascending a) z
 
-scan-all : (C : Certificate) (image : List ℕ) (n a : ℕ) → scan C image n a ≡ Accepted
-    → (k : ℕ) → a ≤ k → k < a + n → C .routine k ≢ 0 → RulesHold C image k
-unfolding scan numberAt
-scan-all C image zero a h k l u r = absurd (omega arith)
-scan-all C image (suc n) a h k l u r =
-    let z = scan-first (eqb (numberAt C image a) 0) (numberAt C image a) a (scan C image n (a + 1)) refl h in
-    ⊎-elim (λ (e : k ≡ a). subst (λ (j : ℕ). C .routine j ≢ 0 → RulesHold C image j) (sym e) (λ q. zero-number C image a (eqb (C .routine a) 0) refl q (z .0)) r)
-    (λ (ne : k ≢ a). scan-all C image n (a + 1) (z .1) k (omega arith) (omega arith) r) (same? k a)
+  -- the first of n addresses from a on whose number is not 0: it is b, with number m
+  pub record First (n a m b : ℕ) : Type 0 where
+    pub from : a ≤ b
+    pub upto : b < a + n
+    pub number : numberAt C image b ≡ m
+    pub some : m ≢ 0
+    pub lower : (k : ℕ) → a ≤ k → k < b → numberAt C image k ≡ 0
+
+  -- what a scan of n addresses from a on says
+  abbrev pub Scanned : ℕ → ℕ → Verdict → Type 0
+  Scanned n a Accepted = (k : ℕ) → a ≤ k → k < a + n → numberAt C image k ≡ 0
+  Scanned n a (Refused m b) = First n a m (b .0)
+
+  -- one more address in front, with number 0
+  with-front : (a k : ℕ) → numberAt C image a ≡ 0 → (k ≢ a → numberAt C image k ≡ 0) → numberAt C image k ≡ 0
+  with-front a k z h = ⊎-elim (λ (e : k ≡ a). subst (λ (j : ℕ). numberAt C image j ≡ 0) (sym e) z) h (same? k a)
+
+  in-front : (n a : ℕ) (v : Verdict) → numberAt C image a ≡ 0 → Scanned n (a + 1) v → Scanned (suc n) a v
+  in-front n a Accepted z h = λ k l u. with-front a k z (λ ne. h k (omega arith) (omega arith))
+  in-front n a (Refused m b) z h =
+      let l : a + 1 ≤ b .0 = h .from in
+      let u : b .0 < a + 1 + n = h .upto in
+      record {
+        from = omega arith;
+        upto = omega arith;
+        number = h .number;
+        some = h .some;
+        lower = λ k l u. with-front a k z (λ ne. h .lower k (omega arith) u);
+      }
+
+  pub scanned : (n a : ℕ) → Scanned n a (scan C image n a)
+  unfolding scan
+  scanned zero a = λ k l u. absurd (omega arith)
+  scanned (suc n) a = on (scanned n (a + 1)) (eqb (numberAt C image a) 0) refl
+    where
+      on : Scanned n (a + 1) (scan C image n (a + 1)) → (b : Bool) → eqb (numberAt C image a) 0 ≡ b
+          → Scanned (suc n) a (elim b [ true ↦ scan C image n (a + 1) | false ↦ Refused (numberAt C image a) (romAddr a) ])
+      on rest true e = in-front n a (scan C image n (a + 1)) (eqb-true (numberAt C image a) 0 e) rest
+      on rest false e =
+          record {
+            from = omega arith;
+            upto = omega arith;
+            number = refl;
+            some = eqb-false (numberAt C image a) 0 e;
+            lower = λ k l u. absurd (omega arith);
+          }
 
 verdict-first : (b : Bool) (f : Formula) (v : Verdict) → decide f ≡ b
     → _≡_ {A = Verdict} (elim b [ true ↦ v | false ↦ Refused 20 (romAddr 0) ]) Accepted → Holds f × (v ≡ Accepted)
@@ -104,4 +146,5 @@ pub accepts : (C : Certificate) (image : List ℕ) → verdictOn C image ≡ Acc
 unfolding verdictOn
 accepts C image h =
     let z = verdict-first (decide (rule20 C image)) (rule20 C image) (scan C image romLength 0) refl h in
-    record { r20 = z .0; rules = λ a l r. scan-all C image romLength 0 (z .1) a (omega arith) (omega arith) r }
+    let s : Scanned C image romLength 0 Accepted = subst (λ (v : Verdict). Scanned C image romLength 0 v) (z .1) (scanned C image romLength 0) in
+    record { r20 = z .0; rules = λ a l r. named C image a (number-every C image a (s a (omega arith) (omega arith)) r) }

@@ -8,6 +8,7 @@ use Prim.Native.Nat.{ℕ, _+_, _*_, _/_, _%_, _≤_, _<_}
 use native.Mathlib.Omega.{arith}
 use lib.Dec.{T, eqb, ltb, eqb→eq, ltb→lt}
 use Rattle.base.specs.declared.RomAddr.{RomAddr}
+use Rattle.base.specs.Addresses.{flagsCell, spCell, symCell}
 use Rattle.base.specs.Choice.{pick}
 use Rattle.base.specs.Formula.{Holds, eq, _&_, same?, le?, of-true, eqb-yes}
 use Rattle.base.specs.Lengths.{romLength}
@@ -15,7 +16,7 @@ use Rattle.chip.specs.Registers.{storeOf}
 use Rattle.chip.specs.Laws.{mapped-ram, load-ram, store-other, store-ram}
 use Rattle.alu.specs.Laws.{condition-always}
 use Rattle.action.specs.declared.Action.{Action}
-use Rattle.semantics.specs.Operands.{flagsCell, spCell, symCell, lowered, raised, storeTop, pushOf, pushAddress, wordAt, wordMapped}
+use Rattle.semantics.specs.Operands.{lowered, raised, storeTop, pushOf, pushAddress, wordAt, wordMapped}
 use Rattle.semantics.specs.Execute.{executeOf, callOf, returnOf}
 use Rattle.certificate.specs.declared.Write.{Write}
 use Rattle.certificate.specs.declared.FlagEffect.the-variants.{Kept}
@@ -23,7 +24,8 @@ use Rattle.certificate.specs.declared.Flow.{Flow}
 use Rattle.certificate.specs.declared.Flow.the-variants.{Call, Return}
 use Rattle.certificate.specs.declared.Summary.{Summary}
 use Rattle.certificate.specs.Layout.{Certificate}
-use Rattle.safety.specs.Rules.{noCell, ramEnd, unloaded, plainEdge, Edge, worst, boundAt, flowAllowed, calls, ends, successor, callTarget, callDepth, claimsFollow, survives, call26, sameFirst, boundAfterCall, paid, rule21, rule22, rule25, rule26, rule27}
+use Rattle.safety.specs.Rules.{noCell, ramEnd, unloaded, plainEdge, Edge, worst, boundAt, flowAllowed, calls, ends, successor, callTarget}
+use Rattle.safety.specs.Rules.{callDepth, claimsFollow, survives, call26, sameFirst, boundAfterCall, paid, rule21, rule22, rule25, rule26, rule27}
 use Rattle.safety.specs.Statement.{Opener, byReset, byCall, byInterrupt, Frame, spends, outward}
 use Rattle.safety.specs.Invariant.{at, Registers, Awake, Claims, firstNow, boundNow, reserve, CallLink, Link, frameSize, Chain, Invariant}
 use Rattle.safety.specs.Facts.{Global, EntryFacts}
@@ -165,19 +167,36 @@ bound-after-call C more a t next r r″ hn e en cl same =
         omega arith)
         (λ (h : C .firstCell a ≡ noCell). absurd (subst T (sym (eqb-yes h) ∙ e2) tt)) (e .firstCell)
 
+-- the frame that a CALL of t opens
+abbrev pub calledFrame : Certificate → ℕ → ℕ → Frame
+calledFrame C t next = record { routine = C .routine t; returnTo = next; cycles = 0; opener = byCall }
+
+module _ (C : Certificate) (image : List ℕ) where
+  -- a return with action act from f, which o opened: f closes within its bound, and the next frame outward goes on at f's return address
+  pub record ReturnRight (act : Action) (o : Opener) (ld : Bool) (r rec : List ℕ) (next : RomAddr) (c : ℕ) (f : Frame) (fs : List Frame) : Type 0 where
+    pub goes : executeOf act image r rec next .next .stop ≡ 0
+    pub mode : Awake (executeOf act image r rec next .next .mode)
+    pub counter : executeOf act image r rec next .next .pc .0 ≡ f .returnTo
+    pub opener : f .opener ≡ o
+    pub own : f .cycles + c ≤ C .bound (f .routine)
+    pub waiting : Frame
+    pub rest : List Frame
+    pub shape : outward c fs (f .opener) ≡ waiting ∷ rest
+    pub invariant : Invariant C ld (executeOf act image r rec next .regs) (f .returnTo) waiting rest
+
 module _ (C : Certificate) (image : List ℕ) (global : Global C image) (more : CertificateFacts C) where
   -- what the rules say of a CALL at a of t
   record CallRules (a t next c : ℕ) : Type 0 where
-    pub target : Holds (successor C a next) × Holds (callTarget C a t)
-    pub depth : Holds (callDepth C a next t)
+    pub target : Holds (successor C (C .routine a) next) × Holds (callTarget C (C .routine a) t)
+    pub depth : Holds (callDepth C (C .depth a) (C .need (C .routine a)) next t)
     pub claims : Holds (call26 C a next t)
     pub cost : Holds (paid C a (plainEdge next) c (boundAfterCall C a next t))
 
   call-rules : (a : ℕ) (S : Summary) (next c : ℕ) (to : RomAddr) → S .flow ≡ Call to → RulesOf C a S next c → CallRules a (to .0) next c
   unfolding rule21 rule25 rule26 rule27
   call-rules a S next c to e rules = record {
-    target = subst (λ (k : Flow). Holds (calls k (λ t. successor C a next & callTarget C a t))) e (rules .r21 (rules .r22) .1);
-    depth = subst (λ (k : Flow). Holds (calls k (callDepth C a next))) e (rules .r25 .1 .1 .1 .0);
+    target = subst (λ (k : Flow). Holds (calls k (λ t. successor C (C .routine a) next & callTarget C (C .routine a) t))) e (rules .r21 (rules .r22) .1);
+    depth = subst (λ (k : Flow). Holds (calls k (callDepth C (C .depth a) (C .need (C .routine a)) next))) e (rules .r25 .1 .1 .1 .0);
     claims = subst (λ (k : Flow). Holds (calls k (call26 C a next))) e (rules .r26 .1);
     cost = subst (λ (k : Flow). Holds (calls k (λ t. paid C a (plainEdge next) c (boundAfterCall C a next t)))) e (rules .r27 .1 .0);
   }
@@ -206,9 +225,6 @@ module _ (C : Certificate) (image : List ℕ) (global : Global C image) (more : 
         sym = p .other symCell (omega arith) (omega arith) (omega arith);
       }
 
-  abbrev pub calledFrame : ℕ → ℕ → Frame
-  calledFrame t next = record { routine = C .routine t; returnTo = next; cycles = 0; opener = byCall }
-
   -- a callee's number is at least 3
   callee-number : (a t : ℕ) → 1 ≤ C .routine a → C .routine a < C .routine t → C .side (C .routine t) ≡ C .side (C .routine a) → 3 ≤ C .routine t
   callee-number a t u up sd =
@@ -222,7 +238,7 @@ module _ (C : Certificate) (image : List ℕ) (global : Global C image) (more : 
 
   -- what the caller relies on when the callee returns
   call-link : (r r′ : List ℕ) (a t next c : ℕ) (f : Frame) (fs : List Frame) → Invariant C true r a f fs → CallRules a t next c
-      → Called r r′ next → C .depth t ≡ 0 → CallLink C r′ (at r′ spCell + C .depth t) (calledFrame t next) (spends c f)
+      → Called r r′ next → C .depth t ≡ 0 → CallLink C r′ (at r′ spCell + C .depth t) (calledFrame C t next) (spends c f)
   unfolding successor callTarget callDepth call26
   call-link r r′ a t next c f fs v m ca dt =
       let e = entry-of C image global true r a f fs v in
@@ -285,7 +301,7 @@ module _ (C : Certificate) (image : List ℕ) (global : Global C image) (more : 
 
   -- the invariant at the callee's start, on the registers that CALL leaves
   called-inv : (r r′ : List ℕ) (a t next c : ℕ) (f : Frame) (fs : List Frame) → Invariant C true r a f fs → CallRules a t next c
-      → Called r r′ next → Invariant C true r′ t (calledFrame t next) (spends c f ∷ outward c fs (f .opener))
+      → Called r r′ next → Invariant C true r′ t (calledFrame C t next) (spends c f ∷ outward c fs (f .opener))
   unfolding successor callTarget callDepth call26
   called-inv r r′ a t next c f fs v m ca =
       let e = entry-of C image global true r a f fs v in
@@ -341,7 +357,7 @@ module _ (C : Certificate) (image : List ℕ) (global : Global C image) (more : 
     pub mode : Awake (executeOf (Action.Call to) image r rec next .next .mode)
     pub counter : executeOf (Action.Call to) image r rec next .next .pc .0 ≡ to .0
     pub invariant :
-        Invariant C ld (executeOf (Action.Call to) image r rec next .regs) (to .0) (calledFrame (to .0) (next .0)) (spends c f ∷ outward c fs (f .opener))
+        Invariant C ld (executeOf (Action.Call to) image r rec next .regs) (to .0) (calledFrame C (to .0) (next .0)) (spends c f ∷ outward c fs (f .opener))
 
   pub inv-call : (ld : Bool) (r rec : List ℕ) (a : ℕ) (f : Frame) (fs : List Frame) (S : Summary) (next to : RomAddr) (c : ℕ)
       → S .flow ≡ Call to → RulesOf C a S (next .0) c → Invariant C ld r a f fs → CallRight ld r rec to next c f fs
@@ -349,7 +365,7 @@ module _ (C : Certificate) (image : List ℕ) (global : Global C image) (more : 
   inv-call false r rec a f fs S next to c flow rules v = absurd (call-rules a S (next .0) c to flow rules .depth .0 (v .stack .unloaded))
   inv-call true r rec a f fs S next to c flow rules v =
       let m = call-rules a S (next .0) c to flow rules in
-      let b = before-of C image global true r a f fs v in
+      let b = before-of C true r a f fs v in
       let dk = v .stack .loaded in
       let lw = b .lowest dk in
       let hg = b .highest dk in
@@ -367,18 +383,6 @@ module _ (C : Certificate) (image : List ℕ) (global : Global C image) (more : 
 
   -- Returns --
 
-  -- a return with action act from f, which o opened: f closes within its bound, and the next frame outward goes on at f's return address
-  pub record ReturnRight (act : Action) (o : Opener) (ld : Bool) (r rec : List ℕ) (next : RomAddr) (c : ℕ) (f : Frame) (fs : List Frame) : Type 0 where
-    pub goes : executeOf act image r rec next .next .stop ≡ 0
-    pub mode : Awake (executeOf act image r rec next .next .mode)
-    pub counter : executeOf act image r rec next .next .pc .0 ≡ f .returnTo
-    pub opener : f .opener ≡ o
-    pub own : f .cycles + c ≤ C .bound (f .routine)
-    pub waiting : Frame
-    pub rest : List Frame
-    pub shape : outward c fs (f .opener) ≡ waiting ∷ rest
-    pub invariant : Invariant C ld (executeOf act image r rec next .regs) (f .returnTo) waiting rest
-
   -- what a routine other than main has spent, with the cost of its return
   pub own-cost : (ld : Bool) (r : List ℕ) (a c : ℕ) (f : Frame) (fs : List Frame) → Invariant C ld r a f fs → 2 ≤ C .routine a
       → Holds (paid C a (plainEdge 0) c (λ v. 0)) → f .cycles + c ≤ C .bound (f .routine)
@@ -393,7 +397,7 @@ module _ (C : Certificate) (image : List ℕ) (global : Global C image) (more : 
   return-called : (r rec : List ℕ) (a c : ℕ) (next : RomAddr) (f g : Frame) (rest : List Frame) → Invariant C true r a f (g ∷ rest)
       → 3 ≤ C .routine a → C .depth a ≡ 0 → Holds (paid C a (plainEdge 0) c (λ v. 0)) → f .opener ≡ byCall
       → CallLink C r (at r spCell + C .depth a) f g → Chain C r (at r spCell + C .depth a + 2 + C .depth (f .returnTo)) g rest
-      → ReturnRight Action.Return byCall true r rec next c f (g ∷ rest)
+      → ReturnRight C image Action.Return byCall true r rec next c f (g ∷ rest)
   unfolding executeOf returnOf raised
   return-called r rec a c next f g rest v h3 hd m q l ch =
       let e = entry-of C image global true r a f (g ∷ rest) v in
@@ -450,14 +454,14 @@ module _ (C : Certificate) (image : List ℕ) (global : Global C image) (more : 
 
   -- RET, from the rules that it must meet
   return-now : (ld : Bool) (r rec : List ℕ) (a c : ℕ) (next : RomAddr) (f : Frame) (fs : List Frame) → Invariant C ld r a f fs
-      → 3 ≤ C .routine a → C .depth a ≡ 0 → Holds (paid C a (plainEdge 0) c (λ v. 0)) → ReturnRight Action.Return byCall ld r rec next c f fs
+      → 3 ≤ C .routine a → C .depth a ≡ 0 → Holds (paid C a (plainEdge 0) c (λ v. 0)) → ReturnRight C image Action.Return byCall ld r rec next c f fs
   return-now false r rec a c next f fs v h3 hd m = let d = v .stack .unloaded in absurd (omega arith)
   return-now true r rec a c next f [] v h3 hd m = let z = v .stack .chain .1 in let h = v .home in absurd (omega arith)
   return-now true r rec a c next f (g ∷ rest) v h3 hd m = go (f .opener) refl (v .stack .chain .1) (v .stack .chain .2)
     where
       go : (o : Opener) → f .opener ≡ o → Link C o r (at r spCell + C .depth a) f g
-          → Chain C r (at r spCell + C .depth a + frameSize C o + C .depth (f .returnTo)) g rest
-          → ReturnRight Action.Return byCall true r rec next c f (g ∷ rest)
+          → Chain C r (at r spCell + C .depth a + frameSize o + C .depth (f .returnTo)) g rest
+          → ReturnRight C image Action.Return byCall true r rec next c f (g ∷ rest)
       go byReset q l ch = absurd l
       go byCall q l ch = return-called r rec a c next f g rest v h3 hd m q l ch
       go byInterrupt q l ch = let z = l .service in let h = v .home in absurd (omega arith)
@@ -472,8 +476,8 @@ module _ (C : Certificate) (image : List ℕ) (global : Global C image) (more : 
   )
 
   pub inv-return : (ld : Bool) (r rec : List ℕ) (a : ℕ) (f : Frame) (fs : List Frame) (S : Summary) (next : RomAddr) (c : ℕ) → S .flow ≡ Return
-      → RulesOf C a S (next .0) c → Invariant C ld r a f fs → ReturnRight Action.Return byCall ld r rec next c f fs
+      → RulesOf C a S (next .0) c → Invariant C ld r a f fs → ReturnRight C image Action.Return byCall ld r rec next c f fs
   unfolding rule22
   inv-return ld r rec a f fs S next c flow rules v =
       let z = end-rules a S (next .0) c Return flow rules in
-      return-now ld r rec a c next f fs v (subst (λ (k : Flow). Holds (flowAllowed C a k)) flow (rules .r22 .1) .0) (z .0) (z .1)
+      return-now ld r rec a c next f fs v (subst (λ (k : Flow). Holds (flowAllowed (C .routine a) k)) flow (rules .r22 .1) .0) (z .0) (z .1)

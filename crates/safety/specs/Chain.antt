@@ -28,13 +28,13 @@ module _ (C : Certificate) where
   pub chain-top : (r : List ℕ) (b : ℕ) (f : Frame) (fs : List Frame) → Chain C r b f fs → b ≤ C .top
   chain-top r b f [] ch = omega arith
   chain-top r b f (g ∷ rest) ch =
-      let h = chain-top r (b + frameSize C (f .opener) + C .depth (f .returnTo)) g rest (ch .2) in
+      let h = chain-top r (b + frameSize (f .opener) + C .depth (f .returnTo)) g rest (ch .2) in
       omega arith
 
   -- what a link and the chain behind it say together, for a frame opened by o
   abbrev Linked : Opener → List ℕ → ℕ → Frame → List Frame → Type 0
   Linked o r b f [] = ⊥
-  Linked o r b f (g ∷ rest) = Room C b f × Link C o r b f g × Chain C r (b + frameSize C o + C .depth (f .returnTo)) g rest
+  Linked o r b f (g ∷ rest) = Room C b f × Link C o r b f g × Chain C r (b + frameSize o + C .depth (f .returnTo)) g rest
 
   -- the cost of an instruction, by what opened f
   link-cost : (c : ℕ) (o : Opener) (r : List ℕ) (b : ℕ) (f g : Frame) (rest : List Frame) → Linked o r b f (g ∷ rest)
@@ -113,7 +113,7 @@ module _ (C : Certificate) (image : List ℕ) (global : Global C image) where
         ⊎-elim (λ h x hx c. k .cells x hx (omega arith) (omega arith) (λ q. absurd (omega arith)))
         (λ h x hx c. absurd (omega arith))
 
-    link-keep : (o : Opener) (b : ℕ) (f g : Frame) → b₀ ≤ b → C .floor ≤ b → b + frameSize C o ≤ C .top → Link C o r b f g
+    link-keep : (o : Opener) (b : ℕ) (f g : Frame) → b₀ ≤ b → C .floor ≤ b → b + frameSize o ≤ C .top → Link C o r b f g
         → Related C side m f → Link C o r′ b f g
     link-keep byReset b f g hb hf ht l rel = l
     link-keep byCall b f g hb hf ht l rel = record {
@@ -146,9 +146,9 @@ module _ (C : Certificate) (image : List ℕ) (global : Global C image) where
     pub chain-keep : (b : ℕ) (f : Frame) (fs : List Frame) → b₀ ≤ b → Related C side m f → Chain C r b f fs → Chain C r′ b f fs
     chain-keep b f [] hb rel ch = ch
     chain-keep b f (g ∷ rest) hb rel ch =
-        let t = chain-top C r (b + frameSize C (f .opener) + C .depth (f .returnTo)) g rest (ch .2) in
+        let t = chain-top C r (b + frameSize (f .opener) + C .depth (f .returnTo)) g rest (ch .2) in
         let room = ch .0 in (
           ch .0,
           link-keep (f .opener) b f g hb (omega arith) (omega arith) (ch .1) rel,
-          chain-keep (b + frameSize C (f .opener) + C .depth (f .returnTo)) g rest (omega arith) (link-related (f .opener) b f g (ch .1) rel) (ch .2),
+          chain-keep (b + frameSize (f .opener) + C .depth (f .returnTo)) g rest (omega arith) (link-related (f .opener) b f g (ch .1) rel) (ch .2),
         )

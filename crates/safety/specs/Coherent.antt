@@ -4,6 +4,7 @@ use mathlib.Core.Path.{_≡_, refl, sym, subst, _∙_, ap}
 use mathlib.Core.Bool.{Bool, true, false}
 use lib.Dec.{T, eqb}
 use Rattle.base.specs.declared.RegAddr.{RegAddr}
+use Rattle.base.specs.Addresses.{spCell}
 use Rattle.base.specs.Choice.{pick}
 use Rattle.base.specs.Formula.{Holds}
 use Rattle.isa.specs.declared.Alu.{Alu}
@@ -15,7 +16,6 @@ use Rattle.alu.specs.Operations.{stores}
 use Rattle.action.specs.declared.Operand.{Operand}
 use Rattle.action.specs.declared.Operand.the-variants.{Register, Indirect, Immediate}
 use Rattle.action.specs.declared.Action.{Action}
-use Rattle.semantics.specs.Operands.{spCell}
 use Rattle.certificate.specs.declared.NewValue.the-variants.{Number, OneMore, OneLess, AtMost, CopyOf, Unknown}
 use Rattle.certificate.specs.declared.Write.{Write}
 use Rattle.certificate.specs.declared.Access.{Access}
@@ -24,7 +24,6 @@ use Rattle.certificate.specs.declared.FlagEffect.the-variants.{Kept, Changed, C
 use Rattle.certificate.specs.declared.StackEffect.the-variants.{Same, Push, Pop, Load}
 use Rattle.certificate.specs.declared.Summary.{Summary}
 use Rattle.certificate.specs.Summaries.{reading, moving, into, binaryValue, binaryFlags, binarySummary, modifyValue, modifyFlags, loadSummary, summaryOf}
-use Rattle.certificate.specs.Layout.{Certificate}
 use Rattle.safety.specs.Rules.{noCell, directRead}
 use Rattle.safety.specs.Edge.{Copies, Compares}
 
@@ -49,18 +48,18 @@ unfolding mappedOf
 unmapped e = subst T (sym e) tt
 
 -- a register that is read is mapped, FFH is not
-pub reads-copies : (C : Certificate) (w : Write) (s : Access) → Reads w s → Holds (directRead s) → Copies w
-reads-copies C Write.Nothing s h m = tt
-reads-copies C (Write.Register x (Number n)) s h m = tt
-reads-copies C (Write.Register x OneMore) s h m = tt
-reads-copies C (Write.Register x OneLess) s h m = tt
-reads-copies C (Write.Register x (AtMost n)) s h m = tt
-reads-copies C (Write.Register x (CopyOf y)) s h m = λ q.
+pub reads-copies : (w : Write) (s : Access) → Reads w s → Holds (directRead s) → Copies w
+reads-copies Write.Nothing s h m = tt
+reads-copies (Write.Register x (Number n)) s h m = tt
+reads-copies (Write.Register x OneMore) s h m = tt
+reads-copies (Write.Register x OneLess) s h m = tt
+reads-copies (Write.Register x (AtMost n)) s h m = tt
+reads-copies (Write.Register x (CopyOf y)) s h m = λ q.
     let z : mappedOf (y .0) ≡ true = subst (λ (u : Access). Holds (directRead u)) h m in
     unmapped (sym (ap mappedOf q) ∙ z)
-reads-copies C (Write.Register x Unknown) s h m = tt
-reads-copies C (Write.Pointed p o) s h m = tt
-reads-copies C (Write.RegisterAndPair x p) s h m = tt
+reads-copies (Write.Register x Unknown) s h m = tt
+reads-copies (Write.Pointed p o) s h m = tt
+reads-copies (Write.RegisterAndPair x p) s h m = tt
 
 binary-reads : (op : Alu) (a : RegAddr) (s : Operand) (u : Access) → Reads (Write.Register a (binaryValue op s)) u
 binary-reads And a (Register b) u = tt

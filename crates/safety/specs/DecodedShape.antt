@@ -1,19 +1,19 @@
--- Decoded instructions have the shape that the summaries ask for, and one to four bytes.
+-- Decoded instructions have the shape that the summaries ask for.
 -- Assumes nothing.
-use mathlib.Core.Path.{_≡_, refl, subst}
+use mathlib.Core.Path.{_≡_, subst}
 use mathlib.Core.Bool.{Bool, true, false}
 use mathlib.Core.List.{List}
-use Prim.Native.Nat.{ℕ, _+_, _-_, _*_, _/_, _%_, _≤_, _<_}
+use Prim.Native.Nat.{ℕ, _+_, _-_, _*_, _/_, _%_, _<_}
 use native.Mathlib.Omega.{arith}
-use lib.Dec.{T, eqb, ltb, leb, ltb→lt}
+use lib.Dec.{eqb, ltb, leb}
 use lib.ListN.{length, getD}
 use Rattle.base.specs.declared.RegAddr.{RegAddr}
 use Rattle.base.specs.declared.RomAddr.{RomAddr}
 use Rattle.base.specs.Addresses.{romAddr}
 use Rattle.base.specs.Choice.{pick}
+use Rattle.base.specs.ChoiceLaws.{pick-has}
 use Rattle.base.specs.Outcome.{Outcome}
 use Rattle.base.specs.Outcome.Outcome.{value, refused}
-use Rattle.base.specs.Formula.{lt, _&_, decide, sound, of-true}
 use Rattle.isa.specs.Map.{Cell, cellOf, cellLength}
 use Rattle.isa.specs.Map.Cell.{empty, unary, unaryAt, pop, popAt, push, pushAt, jumpAt, callAt, aluWork, aluWorkAt, aluReg, aluRegAt, aluImm, ldcDec, ldcInc, ldcLoad, ldcStore}
 use Rattle.isa.specs.Map.Cell.{loadReg, loadRegAt, loadImm, loadAtImm, loadAtReg, call, loadIndexed, storeIndexed, ldcLoadLong, ldcStoreLong}
@@ -29,14 +29,10 @@ use Rattle.action.specs.declared.Action.{Action}
 use Rattle.action.specs.Action.{workOf, impliedAction, actionOf}
 use Rattle.safety.specs.Invariant.{Shaped, SmallOffset}
 
--- what an outcome of decoding shows: the action is shaped, its instruction has one to four bytes
+-- what an outcome of decoding shows: the action is shaped
 abbrev Right : RomAddr → Outcome (Instruction × ℕ) → Type 0
-Right next (value d) = Shaped (actionOf (d .0) next) × T (decide (lt 0 (d .1) & lt (d .1) 5))
+Right next (value d) = Shaped (actionOf (d .0) next)
 Right next (refused n) = Unit {0}
-
-either : (next : RomAddr) (b : Bool) (x y : Outcome (Instruction × ℕ)) → Right next x → Right next y → Right next (pick b x y)
-either next true x y p q = p
-either next false x y p q = q
 
 -- an odd pair means LDE
 code-shaped : (b : Bool) (d : RegAddr) (c : CodeAddress) → SmallOffset c → Shaped (pick b (Action.LoadCode d c) Action.External)
@@ -67,79 +63,59 @@ implied-shaped Nop = tt
 form-right : (next : RomAddr) (c : Cell) (h b1 b2 b3 : ℕ) → b1 < 256 → b2 < 256 → Right next (formOf c h b1 b2 b3)
 unfolding actionOf
 form-right next empty h b1 b2 b3 s1 s2 = tt
-form-right next (unary u) h b1 b2 b3 s1 s2 = (tt, tt)
-form-right next (unaryAt u) h b1 b2 b3 s1 s2 = (tt, tt)
-form-right next pop h b1 b2 b3 s1 s2 = (tt, tt)
-form-right next popAt h b1 b2 b3 s1 s2 = (tt, tt)
-form-right next push h b1 b2 b3 s1 s2 = (tt, tt)
-form-right next pushAt h b1 b2 b3 s1 s2 = (tt, tt)
-form-right next jumpAt h b1 b2 b3 s1 s2 = either next (eqb (b1 % 2) 0) _ (refused 12) (tt, tt) tt
-form-right next callAt h b1 b2 b3 s1 s2 = either next (eqb (b1 % 2) 0) _ (refused 12) (tt, tt) tt
-form-right next (aluWork a) h b1 b2 b3 s1 s2 = (tt, tt)
-form-right next (aluWorkAt a) h b1 b2 b3 s1 s2 = (tt, tt)
-form-right next (aluReg a) h b1 b2 b3 s1 s2 = (tt, tt)
-form-right next (aluRegAt a) h b1 b2 b3 s1 s2 = (tt, tt)
-form-right next (aluImm a) h b1 b2 b3 s1 s2 = (s2, tt)
-form-right next ldcDec h b1 b2 b3 s1 s2 = (step-shaped (eqb (b1 % 16 % 2) 0) (workOf (b1 / 16)) (workOf (b1 % 16)) false, tt)
-form-right next ldcInc h b1 b2 b3 s1 s2 = (step-shaped (eqb (b1 % 16 % 2) 0) (workOf (b1 / 16)) (workOf (b1 % 16)) true, tt)
-form-right next ldcLoad h b1 b2 b3 s1 s2 = (code-shaped (eqb (b1 % 16 % 2) 0) (workOf (b1 / 16)) (Short (workOf (b1 % 16)) 0) (omega arith), tt)
-form-right next ldcStore h b1 b2 b3 s1 s2 = (tt, tt)
-form-right next loadReg h b1 b2 b3 s1 s2 = (tt, tt)
-form-right next loadRegAt h b1 b2 b3 s1 s2 = (tt, tt)
-form-right next loadImm h b1 b2 b3 s1 s2 = (s2, tt)
-form-right next loadAtImm h b1 b2 b3 s1 s2 = (s2, tt)
-form-right next loadAtReg h b1 b2 b3 s1 s2 = (tt, tt)
-form-right next call h b1 b2 b3 s1 s2 = (tt, tt)
-form-right next loadIndexed h b1 b2 b3 s1 s2 = (tt, tt)
-form-right next storeIndexed h b1 b2 b3 s1 s2 = (tt, tt)
+form-right next (unary u) h b1 b2 b3 s1 s2 = tt
+form-right next (unaryAt u) h b1 b2 b3 s1 s2 = tt
+form-right next pop h b1 b2 b3 s1 s2 = tt
+form-right next popAt h b1 b2 b3 s1 s2 = tt
+form-right next push h b1 b2 b3 s1 s2 = tt
+form-right next pushAt h b1 b2 b3 s1 s2 = tt
+form-right next jumpAt h b1 b2 b3 s1 s2 = pick-has (Right next) (eqb (b1 % 2) 0) _ (refused 12) (λ _. tt) (λ _. tt)
+form-right next callAt h b1 b2 b3 s1 s2 = pick-has (Right next) (eqb (b1 % 2) 0) _ (refused 12) (λ _. tt) (λ _. tt)
+form-right next (aluWork a) h b1 b2 b3 s1 s2 = tt
+form-right next (aluWorkAt a) h b1 b2 b3 s1 s2 = tt
+form-right next (aluReg a) h b1 b2 b3 s1 s2 = tt
+form-right next (aluRegAt a) h b1 b2 b3 s1 s2 = tt
+form-right next (aluImm a) h b1 b2 b3 s1 s2 = s2
+form-right next ldcDec h b1 b2 b3 s1 s2 = step-shaped (eqb (b1 % 16 % 2) 0) (workOf (b1 / 16)) (workOf (b1 % 16)) false
+form-right next ldcInc h b1 b2 b3 s1 s2 = step-shaped (eqb (b1 % 16 % 2) 0) (workOf (b1 / 16)) (workOf (b1 % 16)) true
+form-right next ldcLoad h b1 b2 b3 s1 s2 = code-shaped (eqb (b1 % 16 % 2) 0) (workOf (b1 / 16)) (Short (workOf (b1 % 16)) 0) (omega arith)
+form-right next ldcStore h b1 b2 b3 s1 s2 = tt
+form-right next loadReg h b1 b2 b3 s1 s2 = tt
+form-right next loadRegAt h b1 b2 b3 s1 s2 = tt
+form-right next loadImm h b1 b2 b3 s1 s2 = s2
+form-right next loadAtImm h b1 b2 b3 s1 s2 = s2
+form-right next loadAtReg h b1 b2 b3 s1 s2 = tt
+form-right next call h b1 b2 b3 s1 s2 = tt
+form-right next loadIndexed h b1 b2 b3 s1 s2 = tt
+form-right next storeIndexed h b1 b2 b3 s1 s2 = tt
 form-right next ldcLoadLong h b1 b2 b3 s1 s2 =
-    either next (ltb (b1 % 16) 2) _ _ (direct-shaped (eqb (b1 % 16) 1) (workOf (b1 / 16)) (romAddr (b3 * 256 + b2)), tt)
-    (code-shaped (eqb (b1 % 16 % 2) 0) (workOf (b1 / 16)) (Long (workOf (b1 % 16)) (b3 * 256 + b2)) tt, tt)
-form-right next ldcStoreLong h b1 b2 b3 s1 s2 = either next (ltb (b1 % 16) 2) _ _ (tt, tt) (tt, tt)
-form-right next loadWorkAt h b1 b2 b3 s1 s2 = (tt, tt)
-form-right next loadAtWork h b1 b2 b3 s1 s2 = (tt, tt)
-form-right next ldcLoadShort h b1 b2 b3 s1 s2 = (code-shaped (eqb (b1 % 16 % 2) 0) (workOf (b1 / 16)) (Short (workOf (b1 % 16)) b2) s2, tt)
-form-right next ldcStoreShort h b1 b2 b3 s1 s2 = (tt, tt)
-form-right next loadWorkReg h b1 b2 b3 s1 s2 = (tt, tt)
-form-right next loadRegWork h b1 b2 b3 s1 s2 = (tt, tt)
-form-right next jumpRel h b1 b2 b3 s1 s2 = (tt, tt)
-form-right next loadWorkImm h b1 b2 b3 s1 s2 = (s1, tt)
-form-right next jump h b1 b2 b3 s1 s2 = (tt, tt)
-form-right next incWork h b1 b2 b3 s1 s2 = (tt, tt)
-form-right next (implied p) h b1 b2 b3 s1 s2 = (implied-shaped p, tt)
+    pick-has (Right next) (ltb (b1 % 16) 2) _ _ (λ _. direct-shaped (eqb (b1 % 16) 1) (workOf (b1 / 16)) (romAddr (b3 * 256 + b2)))
+    (λ _. code-shaped (eqb (b1 % 16 % 2) 0) (workOf (b1 / 16)) (Long (workOf (b1 % 16)) (b3 * 256 + b2)) tt)
+form-right next ldcStoreLong h b1 b2 b3 s1 s2 = pick-has (Right next) (ltb (b1 % 16) 2) _ _ (λ _. tt) (λ _. tt)
+form-right next loadWorkAt h b1 b2 b3 s1 s2 = tt
+form-right next loadAtWork h b1 b2 b3 s1 s2 = tt
+form-right next ldcLoadShort h b1 b2 b3 s1 s2 = code-shaped (eqb (b1 % 16 % 2) 0) (workOf (b1 / 16)) (Short (workOf (b1 % 16)) b2) s2
+form-right next ldcStoreShort h b1 b2 b3 s1 s2 = tt
+form-right next loadWorkReg h b1 b2 b3 s1 s2 = tt
+form-right next loadRegWork h b1 b2 b3 s1 s2 = tt
+form-right next jumpRel h b1 b2 b3 s1 s2 = tt
+form-right next loadWorkImm h b1 b2 b3 s1 s2 = s1
+form-right next jump h b1 b2 b3 s1 s2 = tt
+form-right next incWork h b1 b2 b3 s1 s2 = tt
+form-right next (implied p) h b1 b2 b3 s1 s2 = implied-shaped p
 
 decode-right : (image : List ℕ) → ((i : ℕ) → getD image i 0 < 256) → (pc : ℕ) (next : RomAddr) → Right next (decodeAt image pc)
 unfolding decodeAt
 decode-right image bytes pc next =
-    either next (ltb pc (length image)) _ (refused 10)
-    (either next (leb (cellLength (cellOf (getD image pc 0))) (length image - pc)) _ (refused 10)
-    (form-right next (cellOf (getD image pc 0)) (getD image pc 0 / 16) (getD image (pc + 1) 0) (getD image (pc + 2) 0) (getD image (pc + 3) 0)
+    pick-has (Right next) (ltb pc (length image)) _ (refused 10)
+    (λ _.
+    pick-has (Right next) (leb (cellLength (cellOf (getD image pc 0))) (length image - pc)) _ (refused 10)
+    (λ _.
+    form-right next (cellOf (getD image pc 0)) (getD image pc 0 / 16) (getD image (pc + 1) 0) (getD image (pc + 2) 0) (getD image (pc + 3) 0)
     (bytes (pc + 1)) (bytes (pc + 2)))
-    tt)
-    tt
+    (λ _. tt))
+    (λ _. tt)
 
 pub decoded-shaped : (image : List ℕ) → ((i : ℕ) → getD image i 0 < 256) → (pc : ℕ) (d : Instruction × ℕ) → decodeAt image pc ≡ value d
     → (next : RomAddr) → Shaped (actionOf (d .0) next)
-decoded-shaped image bytes pc d q next = subst (λ (o : Outcome (Instruction × ℕ)). Right next o) q (decode-right image bytes pc next) .0
-
--- a refusal is no value
-was-true : (b : Bool) (o : Outcome (Instruction × ℕ)) (d : Instruction × ℕ) → pick b o (refused 10) ≡ value d → b ≡ true
-was-true true o d q = refl
-was-true false o d q = absurd (let z : _≡_ {A = ℕ} 0 1 = cc in omega arith)
-
--- one to four bytes, the first of them in the image
-pub record DecodedLength (image : List ℕ) (pc n : ℕ) : Type 0 where
-  pub some : 1 ≤ n
-  pub few : n ≤ 4
-  pub inside : pc < length image
-
-pub decoded-length : (image : List ℕ) → ((i : ℕ) → getD image i 0 < 256) → (pc : ℕ) (d : Instruction × ℕ) → decodeAt image pc ≡ value d
-    → DecodedLength image pc (d .1)
-unfolding decodeAt
-decoded-length image bytes pc d q =
-    let z = sound (lt 0 (d .1) & lt (d .1) 5) (subst (λ (o : Outcome (Instruction × ℕ)). Right (romAddr 0) o) q (decode-right image bytes pc (romAddr 0)) .1) in
-    record {
-      some = omega arith;
-      few = omega arith;
-      inside = ltb→lt pc (length image) (of-true (ltb pc (length image)) (was-true (ltb pc (length image)) _ d q));
-    }
+decoded-shaped image bytes pc d q next = subst (Right next) q (decode-right image bytes pc next)

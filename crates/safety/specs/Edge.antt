@@ -9,24 +9,27 @@ use native.Mathlib.Omega.{arith}
 use native.Mathlib.Nat.{mul-le-mul-left}
 use lib.Dec.{T, leb, ltb, eqb, eqb→eq, ltb→lt}
 use Rattle.base.specs.declared.RegAddr.{RegAddr}
+use Rattle.base.specs.Addresses.{flagsCell}
 use Rattle.base.specs.Choice.{pick, choose}
+use Rattle.base.specs.ChoiceLaws.{pick-has, Each}
 use Rattle.base.specs.Formula.{Formula, Holds, decide, sound, decide-true, decide-false, always, le, lt, eq, neg, _&_, _‖_, same?, le?, of-true, eqb-yes, eqb-no, ltb-yes, ltb-no}
 use Rattle.base.specs.Lengths.{romLength}
 use Rattle.alu.specs.Flags.{condition}
 use Rattle.alu.specs.Operations.{compareFlags}
 use Rattle.alu.specs.Laws.{compare-lt, compare-ge, compare-eq, compare-ne, compare-le, compare-gt}
-use Rattle.semantics.specs.Operands.{flagsCell}
 use Rattle.certificate.specs.declared.NewValue.{NewValue}
 use Rattle.certificate.specs.declared.NewValue.the-variants.{Number, OneMore, OneLess, AtMost, CopyOf, Unknown}
 use Rattle.certificate.specs.declared.Write.{Write}
 use Rattle.certificate.specs.declared.FlagEffect.{FlagEffect}
 use Rattle.certificate.specs.declared.FlagEffect.the-variants.{Kept, Changed, Compared}
 use Rattle.certificate.specs.Layout.{Certificate}
-use Rattle.safety.specs.Rules.{noCell, ramEnd, Edge, onEdge, told, meets, low, high, claimed, boundAt, worst, claimRule, emptyEntry, entryRule, addressRule, startRule, rule20, writable, directWrite, reach, pointedWrite, Change, changeOf, narrowed, left, feasible, follows, claimFollows, claimsFollow, isUnchanged, flagsFollow, compareFollows, firstValue, sameFirst, boundAlong, boundAfter, paid}
+use Rattle.safety.specs.Rules.{noCell, ramEnd, Edge, onEdge, told, meets, low, high, claimed, boundAt, worst, claimRule, emptyEntry, entryRule, addressRule}
+use Rattle.safety.specs.Rules.{startRule, writable, directWrite, reach, pointedWrite, Change, changeOf, narrowed, left, feasible, follows, claimFollows}
+use Rattle.safety.specs.Rules.{claimsFollow, isUnchanged, flagsFollow, compareFollows, firstValue, sameFirst, boundAlong, boundAfter, paid}
 use Rattle.safety.specs.Rules.Change.{unchanged, changed}
 use Rattle.safety.specs.Invariant.{at, Registers, Claims, CompareHolds, firstNow, boundNow, Effect, FlagsAfter}
 use Rattle.safety.specs.Accepted.{Accepts}
-use Rattle.safety.specs.Facts.{EntryFacts, is-writable}
+use Rattle.safety.specs.Facts.{EntryFacts, is-writable, rule20-facts}
 
 -- What acceptance and the bytes give beside `EntryFacts` --
 
@@ -38,18 +41,19 @@ pub record CertificateFacts (C : Certificate) : Type 0 where
   pub start : (a : ℕ) → a < romLength → 2 ≤ C .routine a → C .start (C .routine a) ≡ a → C .depth a ≡ 0
 
 absent-first : (C : Certificate) (image : List ℕ) → Accepts C image → (a : ℕ) → a < romLength → C .firstCell a ≡ noCell → C .firstLow a ≡ 0
-unfolding rule20 addressRule emptyEntry entryRule claimRule
+unfolding addressRule emptyEntry entryRule claimRule
 absent-first C image ok a h e =
-    let p = ok .r20 .1 .1 .1 .1 .1 .1 .1 .1 .1 .1 .1 .1 a h in
+    let p = rule20-facts C image ok .addresses a h in
     ⊎-elim (λ (z : C .routine a ≡ 0). let q = p .0 z in absurd (let y = q .1 .1 .1 .1 .0 in omega arith))
     (λ (n : C .routine a ≢ 0). let q = p .1 n in q .1 .1 .1 .1 .1 .0 .1 e .0) (same? (C .routine a) 0)
 
 start-depth : (C : Certificate) (image : List ℕ) → Accepts C image → (a : ℕ) → a < romLength → 2 ≤ C .routine a → C .start (C .routine a) ≡ a
     → C .depth a ≡ 0
-unfolding rule20 addressRule entryRule startRule
+unfolding addressRule entryRule startRule
 start-depth C image ok a h u e =
-    let p = ok .r20 .1 .1 .1 .1 .1 .1 .1 .1 .1 .1 .1 .1 a h .1 (λ z. omega arith) in
-    let q = ok .r20 .1 .1 .1 .1 .1 .1 .1 .1 .1 .0 (C .routine a) (p .0) (p .1 .0) .1 .1 .0 in
+    let f = rule20-facts C image ok in
+    let p = f .addresses a h .1 (λ z. omega arith) in
+    let q = f .starts (C .routine a) (p .0) (p .1 .0) .1 .1 .0 in
     let n : C .routine a ≡ 1 → ⊥ = λ z. omega arith in
     ap (C .depth) (sym e) ∙ q ∙ rw (eqb-no n) refl
 
@@ -144,18 +148,12 @@ on-edge : (p : Formula) (o : Bool) → o ≡ decide p → Holds (onEdge o p)
 on-edge p true e = decide-true p e refl
 on-edge p false e = decide-false p e refl
 
--- the row of a number holds, wherever it is the number
-abbrev EachHolds : ℕ → List (ℕ × Formula) → Type 0
-EachHolds n [] = Unit {0}
-EachHolds n (e ∷ rows) = (n ≡ e .0 → Holds (e .1)) × EachHolds n rows
-
-pick-holds : (n k : ℕ) (p q : Formula) (b : Bool) → eqb n k ≡ b → (n ≡ k → Holds p) → Holds q → Holds (pick b p q)
-pick-holds n k p q true e f h = f (eqb→eq n k (of-true (eqb n k) e))
-pick-holds n k p q false e f h = h
-
-choose-holds : (n : ℕ) (rows : List (ℕ × Formula)) → EachHolds n rows → Holds (choose n rows always)
+-- where each row holds if the number is the row's, what the number chooses holds
+choose-holds : (n : ℕ) (rows : List (ℕ × Formula)) → Each (λ (k : ℕ) (p : Formula). n ≡ k → Holds p) rows → Holds (choose n rows always)
 choose-holds n [] h = tt
-choose-holds n (e ∷ rows) h = pick-holds n (e .0) (e .1) (choose n rows always) (eqb n (e .0)) refl (h .0) (choose-holds n rows (h .1))
+choose-holds n (e ∷ rows) h =
+    pick-has Holds (eqb n (e .0)) (e .1) (choose n rows always) (λ q. h .0 (eqb→eq n (e .0) (of-true (eqb n (e .0)) q)))
+    (λ _. choose-holds n rows (h .1))
 
 -- of the flags that a compare leaves, each condition tells what the rules take from it
 pub meets-now : (n v k f : ℕ) → f ≡ compareFlags v k → v < 256 → k < 256 → Holds (meets n (condition n f) v k)
@@ -229,9 +227,9 @@ change-copies C a (Write.RegisterAndPair y p) x h =
 abbrev pub taken : ℕ → List ℕ → ℕ → Edge
 taken n r t = record { condition = n; outcome = condition n (at r flagsCell); to = t }
 
-pub kept-effect : (C : Certificate) (ch : Change) (r r′ : List ℕ) (x : ℕ) → Holds (isUnchanged ch) → Effect C ch r r′ x → at r′ x ≡ at r x
-kept-effect C unchanged r r′ x h e = e
-kept-effect C (changed v) r r′ x h e = absurd h
+pub kept-effect : (ch : Change) (r r′ : List ℕ) (x : ℕ) → Holds (isUnchanged ch) → Effect ch r r′ x → at r′ x ≡ at r x
+kept-effect unchanged r r′ x h e = e
+kept-effect (changed v) r r′ x h e = absurd h
 
 module _ (C : Certificate) (more : CertificateFacts C) (a : ℕ) (e : EntryFacts C a) (r : List ℕ) (regs : Registers r) (cl : Claims C a r)
     (cm : CompareHolds C a r (at r flagsCell)) (n t : ℕ) where
@@ -274,7 +272,7 @@ module _ (C : Certificate) (more : CertificateFacts C) (a : ℕ) (e : EntryFacts
   paid-now cost after m k = ⊎-elim (λ h. absurd (k h)) (λ h. h (firstNow C a r) first-byte first-left) m
 
   module _ (w : Write) (copies : Copies w) (r′ : List ℕ) (regs′ : Registers r′)
-      (effect : (x : ℕ) → x < ramEnd → 1 ≤ C .class x → Effect C (changeOf C a w x) r r′ x) where
+      (effect : (x : ℕ) → x < ramEnd → 1 ≤ C .class x → Effect (changeOf C a w x) r r′ x) where
     range-copy : (y x l h : ℕ) → y ≢ noCell → l ≤ low C a y → high C a y ≤ h → (y < ramEnd → at r′ x ≡ at r y)
         → (l ≤ at r′ x) × (at r′ x ≤ h)
     range-copy y x l h ny hl hh q =
@@ -292,7 +290,7 @@ module _ (C : Certificate) (more : CertificateFacts C) (a : ℕ) (e : EntryFacts
         (omega arith, omega arith))
         (le? ramEnd y)
 
-    follow : (ch : Change) (x l h : ℕ) → x < ramEnd → CopiesChange ch → Holds (follows C a (taken n r t) ch x l h) → Effect C ch r r′ x
+    follow : (ch : Change) (x l h : ℕ) → x < ramEnd → CopiesChange ch → Holds (follows C a (taken n r t) ch x l h) → Effect ch r r′ x
         → (l ≤ at r′ x) × (at r′ x ≤ h)
     follow unchanged x l h hx k m q = rw q (m (at r x) (regs .bytes x) (left-now x hx))
     follow (changed (Number v)) x l h hx k m q = (omega arith, omega arith)
@@ -330,29 +328,29 @@ module _ (C : Certificate) (more : CertificateFacts C) (a : ℕ) (e : EntryFacts
         (regs′ .bytes x)
 
     flags-follow : (f : FlagEffect) → EntryFacts C t → C .compareCell t < ramEnd → Compares f w → Holds (flagsFollow C a w f t)
-        → FlagsAfter C f r r′ → at r′ flagsCell ≡ compareFlags (at r′ (C .compareCell t)) (C .compareNumber t)
+        → FlagsAfter f r r′ → at r′ flagsCell ≡ compareFlags (at r′ (C .compareCell t)) (C .compareNumber t)
     flags-follow Kept et h k m q =
         let c = et .compareClass h in
         let s = et .sideLow in
         let same : at r′ (C .compareCell t) ≡ at r (C .compareCell t)
-        = kept-effect C (changeOf C a w (C .compareCell t)) r r′ (C .compareCell t) (m .1 .1) (effect (C .compareCell t) h (omega arith)) in
+        = kept-effect (changeOf C a w (C .compareCell t)) r r′ (C .compareCell t) (m .1 .1) (effect (C .compareCell t) h (omega arith)) in
         q ∙ cm (let z = m .0 in omega arith) ∙ sym (ap (λ (v : ℕ). compareFlags v (C .compareNumber t)) same ∙ rw (m .0, m .1 .0) refl)
     flags-follow Changed et h k m q = absurd m
     flags-follow (Compared x v) et h k m q =
         let c = et .compareClass h in
         let s = et .sideLow in
         let same : at r′ (C .compareCell t) ≡ at r (C .compareCell t)
-        = kept-effect C (changeOf C a w (C .compareCell t)) r r′ (C .compareCell t) (rw k tt) (effect (C .compareCell t) h (omega arith)) in
+        = kept-effect (changeOf C a w (C .compareCell t)) r r′ (C .compareCell t) (rw k tt) (effect (C .compareCell t) h (omega arith)) in
         q (let z = m .0 in omega arith) ∙ sym (ap (λ (v : ℕ). compareFlags v (C .compareNumber t)) same ∙ rw (m .0, m .1) refl)
 
     -- and its compare
-    pub compare-follows : (f : FlagEffect) → EntryFacts C t → Compares f w → FlagsAfter C f r r′ → Holds (compareFollows C a w f t)
+    pub compare-follows : (f : FlagEffect) → EntryFacts C t → Compares f w → FlagsAfter f r r′ → Holds (compareFollows C a w f t)
         → CompareHolds C t r′ (at r′ flagsCell)
     unfolding compareFollows
     compare-follows f et k q m h = flags-follow f et h k (m (λ z. omega arith)) q
 
     bound-along : (ch : Change) → t < romLength → EntryFacts C t → Claims C t r′ → C .firstCell t ≡ C .firstCell a → C .firstCell a < ramEnd
-        → Effect C ch r r′ (C .firstCell a) → boundNow C t r′ ≤ boundAlong C ch t (firstNow C a r)
+        → Effect ch r r′ (C .firstCell a) → boundNow C t r′ ≤ boundAlong C ch t (firstNow C a r)
     bound-along unchanged ht et ct q h k =
         let z : firstNow C t r′ ≡ firstNow C a r = first-in C t r′ (omega arith) ∙ ap (at r′) q ∙ k ∙ sym (first-in C a r h) in
         rw z (omega arith)
@@ -408,7 +406,7 @@ module _ (C : Certificate) (more : CertificateFacts C) (a : ℕ) (e : EntryFacts
 -- A cell that the routine at a may not write keeps its value --
 
 module _ (C : Certificate) (a : ℕ) (e : EntryFacts C a) (x : ℕ) (own : C .class x ≤ 2) (limited : C .class x ≡ C .side (C .routine a) → C .limit x < C .routine a) where
-  not-writable : (y : ℕ) → x ≡ y → Holds (writable C a y) → ⊥
+  not-writable : (y : ℕ) → x ≡ y → Holds (writable C (C .routine a) y) → ⊥
   not-writable y z m =
       let w = is-writable C a y e m in
       let lm : C .limit x ≡ C .limit y = ap (C .limit) z in
@@ -416,7 +414,7 @@ module _ (C : Certificate) (a : ℕ) (e : EntryFacts C a) (x : ℕ) (own : C .cl
       let wl = w .limit in
       ⊎-elim (λ s. let k = limited (cx ∙ s) in omega arith) (λ s. omega arith) (w .who)
 
-  pub kept-cell : (w : Write) → x < 256 → Holds (directWrite C a w) → Holds (pointedWrite C a w) → Holds (isUnchanged (changeOf C a w x))
+  pub kept-cell : (w : Write) → x < 256 → Holds (directWrite C (C .routine a) w) → Holds (pointedWrite C a w) → Holds (isUnchanged (changeOf C a w x))
   unfolding reach
   kept-cell Write.Nothing hx m p = tt
   kept-cell (Write.Register y v) hx m p = go (eqb x (y .0)) refl

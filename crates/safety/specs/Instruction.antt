@@ -1,14 +1,12 @@
 -- One instruction of an accepted program, from the invariant: it does not stop, it is right, and it keeps the invariant.
 -- Assumes nothing.
 use mathlib.Core.Path.{_≡_, refl, sym, subst, _∙_, ap}
-use mathlib.Core.Logic.{_≢_}
-use mathlib.Core.Bool.{Bool, true, false, _||_}
-use mathlib.Core.List.{List, [], _∷_}
-use Prim.Native.Nat.{ℕ, _+_, _%_, _≤_, _<_}
-use native.Mathlib.Omega.{arith}
+use mathlib.Core.Bool.{Bool, _||_}
+use mathlib.Core.List.{List, _∷_}
+use Prim.Native.Nat.{ℕ, _+_, _%_, _<_}
 use lib.ListN.{length, getD}
 use Rattle.base.specs.declared.RomAddr.{RomAddr}
-use Rattle.base.specs.Addresses.{romAddr}
+use Rattle.base.specs.Addresses.{romAddr, flagsCell}
 use Rattle.base.specs.Choice.{pick}
 use Rattle.base.specs.Formula.{Holds}
 use Rattle.base.specs.Outcome.{Outcome}
@@ -20,23 +18,19 @@ use Rattle.decode.specs.Decode.{decodeAt}
 use Rattle.action.specs.declared.Action.{Action}
 use Rattle.action.specs.Action.{actionOf}
 use Rattle.semantics.specs.declared.State.{State}
-use Rattle.semantics.specs.Operands.{flagsCell}
 use Rattle.semantics.specs.Execute.{Executed, executeOf}
-use Rattle.semantics.specs.Step.{behind}
 use Rattle.certificate.specs.declared.Flow.{Flow}
 use Rattle.certificate.specs.declared.Flow.the-variants.{Step, Call, Return, InterruptReturn, Forbidden}
-use Rattle.certificate.specs.declared.Summary.{Summary}
 use Rattle.certificate.specs.Layout.{Certificate}
 use Rattle.safety.specs.Rules.{flowAllowed, rule22, rule25}
-use Rattle.certificate.specs.Summaries.{summaryOf, forbidden}
+use Rattle.certificate.specs.Summaries.{summaryOf}
 use Rattle.safety.specs.Verdicts.{summaryFrom, sizeFrom, summaryAt, nextAt, costAt}
-use Rattle.safety.specs.Statement.{Frame, Open, Transfer, stays, calls, returns, returnsFromInterrupt, transferOf, loadsTop, charge, outward, spends, opening, closing, PointersRight, ReturnsRight, Within, transferred, Opener, byCall, byInterrupt}
-use Rattle.safety.specs.Invariant.{at, Awake, Invariant, Refines, Does, Shaped, tableOf}
+use Rattle.safety.specs.Statement.{Frame, Open, transferOf, loadsTop, charge, outward, spends, closing, PointersRight, ReturnsRight, Within, transferred, Opener, byCall, byInterrupt}
+use Rattle.safety.specs.Invariant.{at, Awake, Invariant, Shaped, tableOf}
 use Rattle.safety.specs.Accepted.{Accepts, RulesHold}
-use Rattle.safety.specs.Facts.{Global, global, EntryFacts}
+use Rattle.safety.specs.Facts.{Global, global}
 use Rattle.safety.specs.Memory.{Input}
 use Rattle.safety.specs.StepRules.{StepRules}
-use Rattle.safety.specs.DecodedShape.{decoded-shaped}
 use Rattle.safety.specs.Transfers.{step-stays, is-call, is-return, is-interrupt-return, loadedAfter, loads-top}
 use Rattle.safety.specs.Refine.{refine, depth-met}
 use Rattle.safety.specs.Coherent.{coherent}
@@ -68,22 +62,23 @@ pub decoded-at : (C : Certificate) (image : List ℕ) (a : ℕ) → RulesHold C 
 unfolding summaryAt
 decoded-at C image a h = decoded-some C a (decodeAt image a) (h .r22)
 
-module _ (C : Certificate) (image : List ℕ) (ok : Accepts C image) (facts : CertificateFacts C) (size : length image ≡ romLength)
-    (bytes : (i : ℕ) → getD image i 0 < 256) where
-  gl : Global C image
-  gl = global C image ok
-
+module _ (C : Certificate) (image : List ℕ) where
   -- the instruction act at a on the registers r, with the address next behind it and cost c; o are the open routines
   pub record Right (ld : Bool) (a : ℕ) (act : Action) (r rec : List ℕ) (next : RomAddr) (c : ℕ) (o : Open) (e : Executed) : Type 0 where
     pub goes : e .next .stop ≡ 0
     pub awake : Awake (e .next .mode)
     pub pointers : PointersRight C image (tableOf C a (summaryOf act)) r rec act
-    pub returning : ReturnsRight C image (transferOf act) (o .inner) (e .next .pc .0)
-    pub within : Within C image (charge c o .inner ∷ charge c o .outer)
+    pub returning : ReturnsRight (transferOf act) (o .inner) (e .next .pc .0)
+    pub within : Within C (charge c o .inner ∷ charge c o .outer)
     pub keeps :
         (s′ : State) → s′ .pc ≡ e .next .pc
         → Invariant C (loadsTop (C .top) act || ld) (e .regs) (e .next .pc .0)
-        (transferred C image (transferOf act) next s′ (charge c o) .inner) (transferred C image (transferOf act) next s′ (charge c o) .outer)
+        (transferred C (transferOf act) next s′ (charge c o) .inner) (transferred C (transferOf act) next s′ (charge c o) .outer)
+
+module _ (C : Certificate) (image : List ℕ) (ok : Accepts C image) (facts : CertificateFacts C) (size : length image ≡ romLength)
+    (bytes : (i : ℕ) → getD image i 0 < 256) where
+  gl : Global C image
+  gl = global C image ok
 
   module _ (ld : Bool) (a : ℕ) (act : Action) (r rec : List ℕ) (next : RomAddr) (c : ℕ) (o : Open) (shaped : Shaped act) (input : Input rec)
       (rules : RulesOf C a (summaryOf act) (next .0) c) (v : Invariant C ld r a (o .inner) (o .outer)) where
@@ -92,15 +87,16 @@ module _ (C : Certificate) (image : List ℕ) (ok : Accepts C image) (facts : Ce
     step-rules = record { r23 = rules .r23; r24 = rules .r24; stack = rules .r25 .0; enable = rules .r25 .1 .0 }
 
     -- an instruction that stays in its routine
-    right-step : (n : ℕ) (to : RomAddr) → summaryOf act .flow ≡ Step n to → Right ld a act r rec next c o (executeOf act image r rec next)
+    right-step : (n : ℕ) (to : RomAddr) → summaryOf act .flow ≡ Step n to → Right C image ld a act r rec next c o (executeOf act image r rec next)
     right-step n to flow =
         let f = o .inner in
         let fs = o .outer in
         let d =
-        refine C image gl size bytes a (entry-of C image gl ld r a f fs v) r rec (before-of C image gl ld r a f fs v) input next
+        refine C image gl size bytes a (entry-of C image gl ld r a f fs v) r rec (before-of C ld r a f fs v) input next
         (depth-met C ld r a f fs (v .stack)) act shaped n to flow step-rules in
-        let w : Invariant C (loadedAfter (summaryOf act .stack) ld) (executeOf act image r rec next .regs) (pick (condition n (at r flagsCell)) (to .0) (next .0)) (spends c f) (outward c fs (f .opener))
-        = inv-step C image gl facts ld r (executeOf act image r rec next .regs) a f fs (summaryOf act) (next .0) c n to flow (coherent act) rules v (d .refines) in
+        let r′ = executeOf act image r rec next .regs in
+        let w : Invariant C (loadedAfter (summaryOf act .stack) ld) r′ (pick (condition n (at r flagsCell)) (to .0) (next .0)) (spends c f) (outward c fs (f .opener))
+        = inv-step C image gl facts ld r r′ a f fs (summaryOf act) (next .0) c n to flow (coherent act) rules v (d .refines) in
         let l = loads-top C a act ld (rules .r23) in
         let t = step-stays act n to flow in
         record {
@@ -108,37 +104,37 @@ module _ (C : Certificate) (image : List ℕ) (ok : Accepts C image) (facts : Ce
           awake = d .mode;
           pointers = d .pointers;
           returning = rw t tt;
-          within = within-of C image gl (loadedAfter (summaryOf act .stack) ld) _ _ _ _ w;
+          within = within-of C (loadedAfter (summaryOf act .stack) ld) _ _ _ _ w;
           keeps = λ s′ q. rw (t, l, d .counter) w;
         }
 
     -- CALL
-    right-call : (to : RomAddr) → summaryOf act .flow ≡ Call to → Right ld a act r rec next c o (executeOf act image r rec next)
+    right-call : (to : RomAddr) → summaryOf act .flow ≡ Call to → Right C image ld a act r rec next c o (executeOf act image r rec next)
     right-call to flow =
         let f = o .inner in
         let fs = o .outer in
         let w = inv-call C image gl facts ld r rec a f fs (summaryOf act) next to c flow rules v in
         let e = executeOf (Action.Call to) image r rec next in
-        subst (λ (x : Action). Right ld a x r rec next c o (executeOf x image r rec next)) (sym (is-call act to flow))
+        subst (λ (x : Action). Right C image ld a x r rec next c o (executeOf x image r rec next)) (sym (is-call act to flow))
         (record {
           goes = w .goes;
           awake = w .mode;
           pointers = tt;
           returning = tt;
-          within = within-of C image gl ld (e .regs) (to .0) _ _ (w .invariant) .1;
+          within = within-of C ld (e .regs) (to .0) _ _ (w .invariant) .1;
           keeps = λ s′ q.
               let z : s′ .pc .0 ≡ to .0 = ap (λ (p : RomAddr). p .0) q ∙ w .counter in
-              subst (λ (n : ℕ). Invariant C ld (e .regs) n (calledFrame C image gl facts (s′ .pc .0) (next .0)) (spends c f ∷ outward c fs (f .opener))) (sym (w .counter))
-              (subst (λ (n : ℕ). Invariant C ld (e .regs) (to .0) (calledFrame C image gl facts n (next .0)) (spends c f ∷ outward c fs (f .opener))) (sym z) (w .invariant));
+              subst (λ (n : ℕ). Invariant C ld (e .regs) n (calledFrame C (s′ .pc .0) (next .0)) (spends c f ∷ outward c fs (f .opener))) (sym (w .counter))
+              (subst (λ (n : ℕ). Invariant C ld (e .regs) (to .0) (calledFrame C n (next .0)) (spends c f ∷ outward c fs (f .opener))) (sym z) (w .invariant));
         })
 
     -- a return closes the innermost routine
-    right-closing : (x : Action) (p : Opener) → ReturnRight C image gl facts x p ld r rec next c (o .inner) (o .outer)
+    right-closing : (x : Action) (p : Opener) → ReturnRight C image x p ld r rec next c (o .inner) (o .outer)
         → PointersRight C image (tableOf C a (summaryOf x)) r rec x
-        → ReturnsRight C image (transferOf x) (o .inner) (executeOf x image r rec next .next .pc .0)
+        → ReturnsRight (transferOf x) (o .inner) (executeOf x image r rec next .next .pc .0)
         → (loadsTop (C .top) x || ld) ≡ ld
-        → ((s′ : State) → transferred C image (transferOf x) next s′ (charge c o) ≡ closing (charge c o))
-        → Right ld a x r rec next c o (executeOf x image r rec next)
+        → ((s′ : State) → transferred C (transferOf x) next s′ (charge c o) ≡ closing (charge c o))
+        → Right C image ld a x r rec next c o (executeOf x image r rec next)
     right-closing x p w ptr ret same close =
         let f = o .inner in
         let e = executeOf x image r rec next in
@@ -147,7 +143,7 @@ module _ (C : Certificate) (image : List ℕ) (ok : Accepts C image) (facts : Ce
           awake = w .mode;
           pointers = ptr;
           returning = ret;
-          within = (λ n. w .own, subst (Within C image) (sym (w .shape)) (within-of C image gl ld (e .regs) (f .returnTo) (w .waiting) (w .rest) (w .invariant)));
+          within = (λ n. w .own, subst (Within C) (sym (w .shape)) (within-of C ld (e .regs) (f .returnTo) (w .waiting) (w .rest) (w .invariant)));
           keeps = λ s′ q.
               rw (same, close s′, w .counter)
               (subst
@@ -157,27 +153,27 @@ module _ (C : Certificate) (image : List ℕ) (ok : Accepts C image) (facts : Ce
         }
 
     -- RET
-    right-return : summaryOf act .flow ≡ Return → Right ld a act r rec next c o (executeOf act image r rec next)
+    right-return : summaryOf act .flow ≡ Return → Right C image ld a act r rec next c o (executeOf act image r rec next)
     right-return flow =
         let w = inv-return C image gl facts ld r rec a (o .inner) (o .outer) (summaryOf act) next c flow rules v in
-        subst (λ (x : Action). Right ld a x r rec next c o (executeOf x image r rec next)) (sym (is-return act flow))
+        subst (λ (x : Action). Right C image ld a x r rec next c o (executeOf x image r rec next)) (sym (is-return act flow))
         (right-closing Action.Return byCall w tt (w .counter, w .opener) refl (λ s′. refl))
 
     -- IRET
-    right-interrupt-return : summaryOf act .flow ≡ InterruptReturn → Right ld a act r rec next c o (executeOf act image r rec next)
+    right-interrupt-return : summaryOf act .flow ≡ InterruptReturn → Right C image ld a act r rec next c o (executeOf act image r rec next)
     right-interrupt-return flow =
         let w = inv-interrupt-return C image gl facts ld r rec a (o .inner) (o .outer) (summaryOf act) next c flow rules v in
-        subst (λ (x : Action). Right ld a x r rec next c o (executeOf x image r rec next)) (sym (is-interrupt-return act flow))
+        subst (λ (x : Action). Right C image ld a x r rec next c o (executeOf x image r rec next)) (sym (is-interrupt-return act flow))
         (right-closing Action.InterruptReturn byInterrupt w tt (w .counter, w .opener) refl (λ s′. refl))
 
     -- by the flow of its summary; rule 22 allows no other
-    right-flow : (f : Flow) → summaryOf act .flow ≡ f → Right ld a act r rec next c o (executeOf act image r rec next)
+    right-flow : (f : Flow) → summaryOf act .flow ≡ f → Right C image ld a act r rec next c o (executeOf act image r rec next)
     unfolding rule22
     right-flow (Step n to) q = right-step n to q
     right-flow (Call to) q = right-call to q
     right-flow Return q = right-return q
     right-flow InterruptReturn q = right-interrupt-return q
-    right-flow Forbidden q = absurd (subst (λ (f : Flow). Holds (flowAllowed C a f)) q (rules .r22 .1))
+    right-flow Forbidden q = absurd (subst (λ (f : Flow). Holds (flowAllowed (C .routine a) f)) q (rules .r22 .1))
 
-    pub right : Right ld a act r rec next c o (executeOf act image r rec next)
+    pub right : Right C image ld a act r rec next c o (executeOf act image r rec next)
     right = right-flow (summaryOf act .flow) refl

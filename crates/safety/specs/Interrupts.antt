@@ -8,6 +8,7 @@ use Prim.Native.Nat.{ℕ, _+_, _*_, _%_, _≤_, _<_}
 use native.Mathlib.Omega.{arith}
 use lib.Dec.{T}
 use Rattle.base.specs.declared.RomAddr.{RomAddr}
+use Rattle.base.specs.Addresses.{flagsCell, spCell, symCell}
 use Rattle.base.specs.Formula.{Holds}
 use Rattle.chip.specs.Registers.{storeOf, loadOf}
 use Rattle.chip.specs.Interrupts.{interruptsEnabled, setInterruptsOf}
@@ -15,7 +16,7 @@ use Rattle.chip.specs.Laws.{mapped-ram, load-ram, store-other}
 use Rattle.chip.specs.InterruptLaws.{set-interrupts-enabled, set-interrupts-other}
 use Rattle.alu.specs.Operations.{compareFlags}
 use Rattle.action.specs.declared.Action.{Action}
-use Rattle.semantics.specs.Operands.{flagsCell, spCell, symCell, raised, flagsOf, pushOf, pushAddress}
+use Rattle.semantics.specs.Operands.{raised, flagsOf, pushOf, pushAddress}
 use Rattle.semantics.specs.Execute.{executeOf, returnOf, interruptReturnOf}
 use Rattle.semantics.specs.Step.{vectorOf, entryCost, enterOf}
 use Rattle.certificate.specs.declared.Flow.{Flow}
@@ -39,6 +40,10 @@ service-reserve C = refl
 -- FLAGS as an entry pushes it is FLAGS, whose low nibble is 0
 flags-pushed : (r r′ : List ℕ) → Registers r → at r′ flagsCell ≡ at r flagsCell → flagsOf r′ ≡ at r flagsCell
 flags-pushed r r′ g e = let z = g .flags in omega arith
+
+-- the frame that an interrupt at pc opens
+abbrev pub serviceFrame : ℕ → Frame
+serviceFrame pc = record { routine = 2; returnTo = pc; cycles = entryCost; opener = byInterrupt }
 
 module _ (C : Certificate) (image : List ℕ) (global : Global C image) (more : CertificateFacts C) where
   -- Entry --
@@ -84,9 +89,6 @@ module _ (C : Certificate) (image : List ℕ) (global : Global C image) (more : 
         back = let z = p1 .back in omega arith;
         enabled = set-interrupts-enabled r2 false (let z = p2 .registers .size in omega arith);
       }
-
-  abbrev pub serviceFrame : ℕ → Frame
-  serviceFrame pc = record { routine = 2; returnTo = pc; cycles = entryCost; opener = byInterrupt }
 
   -- what the interrupted routine relies on when the service returns
   entry-link : (r r′ : List ℕ) (pc : ℕ) (f : Frame) (fs : List Frame) → Invariant C true r pc f fs → C .side (C .routine pc) ≡ 1 → Entered r r′ pc
@@ -260,7 +262,7 @@ module _ (C : Certificate) (image : List ℕ) (global : Global C image) (more : 
   return-interrupted : (r rec : List ℕ) (a c : ℕ) (next : RomAddr) (f g : Frame) (rest : List Frame) → Invariant C true r a f (g ∷ rest)
       → C .routine a ≡ 2 → C .depth a ≡ 0 → Holds (paid C a (plainEdge 0) c (λ v. 0)) → f .opener ≡ byInterrupt
       → InterruptLink C r (at r spCell + C .depth a) f g → Chain C r (at r spCell + C .depth a + 3 + C .depth (f .returnTo)) g rest
-      → ReturnRight C image global more Action.InterruptReturn byInterrupt true r rec next c f (g ∷ rest)
+      → ReturnRight C image Action.InterruptReturn byInterrupt true r rec next c f (g ∷ rest)
   unfolding executeOf interruptReturnOf
   return-interrupted r rec a c next f g rest v h2 hd m q l ch =
       let e = entry-of C image global true r a f (g ∷ rest) v in
@@ -311,22 +313,22 @@ module _ (C : Certificate) (image : List ℕ) (global : Global C image) (more : 
   -- IRET, from the rules that it must meet
   interrupt-return-now : (ld : Bool) (r rec : List ℕ) (a c : ℕ) (next : RomAddr) (f : Frame) (fs : List Frame) → Invariant C ld r a f fs
       → C .routine a ≡ 2 → C .depth a ≡ 0 → Holds (paid C a (plainEdge 0) c (λ v. 0))
-      → ReturnRight C image global more Action.InterruptReturn byInterrupt ld r rec next c f fs
+      → ReturnRight C image Action.InterruptReturn byInterrupt ld r rec next c f fs
   interrupt-return-now false r rec a c next f fs v h2 hd m = let d = v .stack .unloaded in absurd (omega arith)
   interrupt-return-now true r rec a c next f [] v h2 hd m = let z = v .stack .chain .1 in let h = v .home in absurd (omega arith)
   interrupt-return-now true r rec a c next f (g ∷ rest) v h2 hd m = go (f .opener) refl (v .stack .chain .1) (v .stack .chain .2)
     where
       go : (o : Opener) → f .opener ≡ o → Link C o r (at r spCell + C .depth a) f g
-          → Chain C r (at r spCell + C .depth a + frameSize C o + C .depth (f .returnTo)) g rest
-          → ReturnRight C image global more Action.InterruptReturn byInterrupt true r rec next c f (g ∷ rest)
+          → Chain C r (at r spCell + C .depth a + frameSize o + C .depth (f .returnTo)) g rest
+          → ReturnRight C image Action.InterruptReturn byInterrupt true r rec next c f (g ∷ rest)
       go byReset q l ch = absurd l
       go byCall q l ch = let z = l .callee in let h = v .home in absurd (omega arith)
       go byInterrupt q l ch = return-interrupted r rec a c next f g rest v h2 hd m q l ch
 
   pub inv-interrupt-return : (ld : Bool) (r rec : List ℕ) (a : ℕ) (f : Frame) (fs : List Frame) (S : Summary) (next : RomAddr) (c : ℕ)
       → S .flow ≡ InterruptReturn → RulesOf C a S (next .0) c → Invariant C ld r a f fs
-      → ReturnRight C image global more Action.InterruptReturn byInterrupt ld r rec next c f fs
+      → ReturnRight C image Action.InterruptReturn byInterrupt ld r rec next c f fs
   unfolding rule22
   inv-interrupt-return ld r rec a f fs S next c flow rules v =
       let z = end-rules C image global more a S (next .0) c InterruptReturn flow rules in
-      interrupt-return-now ld r rec a c next f fs v (subst (λ (k : Flow). Holds (flowAllowed C a k)) flow (rules .r22 .1)) (z .0) (z .1)
+      interrupt-return-now ld r rec a c next f fs v (subst (λ (k : Flow). Holds (flowAllowed (C .routine a) k)) flow (rules .r22 .1)) (z .0) (z .1)

@@ -5,9 +5,10 @@ use mathlib.Core.Logic.{_≢_}
 use mathlib.Core.Bool.{Bool, true, false}
 use mathlib.Core.List.{List, [], _∷_}
 use Prim.Native.Nat.{ℕ, _+_, _-_, _*_, _%_, _≤_, _<_}
-use lib.Dec.{T, eqb, ltb}
+use lib.Dec.{eqb, ltb}
 use lib.ListN.{length, getD}
 use Rattle.base.specs.declared.RomAddr.{RomAddr}
+use Rattle.base.specs.Addresses.{flagsCell, spCell}
 use Rattle.base.specs.Choice.{pick}
 use Rattle.base.specs.Lengths.{romLength}
 use Rattle.chip.specs.Interrupts.{interruptsEnabled}
@@ -19,9 +20,7 @@ use Rattle.action.specs.declared.CodeAddress.{CodeAddress}
 use Rattle.action.specs.declared.Action.{Action}
 use Rattle.semantics.specs.declared.Mode.{Mode}
 use Rattle.semantics.specs.declared.Mode.the-variants.{Running, Idle, Stopped}
-use Rattle.semantics.specs.Operands.{flagsCell, spCell}
 use Rattle.semantics.specs.Execute.{executeOf}
-use Rattle.certificate.specs.declared.NewValue.{NewValue}
 use Rattle.certificate.specs.declared.NewValue.the-variants.{Number, OneMore, OneLess, AtMost, CopyOf, Unknown}
 use Rattle.certificate.specs.declared.Write.{Write}
 use Rattle.certificate.specs.declared.Access.{Access}
@@ -52,6 +51,42 @@ abbrev pub Awake : Mode → Type 0
 Awake Running = Unit {0}
 Awake Idle = Unit {0}
 Awake Stopped = ⊥
+
+-- the stack bytes that opening a routine takes
+abbrev pub frameSize : Opener → ℕ
+frameSize byReset = 0
+frameSize byCall = 2
+frameSize byInterrupt = 3
+
+-- What an instruction does, as its summary says --
+
+abbrev pub Effect : Change → List ℕ → List ℕ → ℕ → Type 0
+Effect unchanged r r′ x = at r′ x ≡ at r x
+Effect (changed (Number n)) r r′ x = at r′ x ≡ n
+Effect (changed OneMore) r r′ x = at r′ x ≡ (at r x + 1) % 256
+Effect (changed OneLess) r r′ x = at r′ x ≡ (at r x + 255) % 256
+Effect (changed (AtMost n)) r r′ x = at r′ x ≤ n
+Effect (changed (CopyOf y)) r r′ x = y .0 < ramEnd → at r′ x ≡ at r (y .0)
+Effect (changed Unknown) r r′ x = Unit {0}
+
+abbrev pub FlagsAfter : FlagEffect → List ℕ → List ℕ → Type 0
+FlagsAfter Kept r r′ = at r′ flagsCell ≡ at r flagsCell
+FlagsAfter Changed r r′ = Unit {0}
+FlagsAfter (Compared x k) r r′ = x .0 < ramEnd → at r′ flagsCell ≡ compareFlags (at r (x .0)) k
+
+abbrev pub spAfter : StackEffect → ℕ → ℕ
+spAfter Same s = s
+spAfter Push s = s - 1
+spAfter Pop s = s + 1
+spAfter (Load n) s = n
+
+abbrev pub enabledAfter : Control → Bool → Bool
+enabledAfter Control.Nothing b = b
+enabledAfter Enable b = true
+enabledAfter Disable b = false
+enabledAfter Wait b = b
+
+-- The invariant --
 
 module _ (C : Certificate) where
   -- every RAM cell lies in its range at an address
@@ -127,12 +162,6 @@ module _ (C : Certificate) where
   Link byCall r b f g = CallLink r b f g
   Link byInterrupt r b f g = InterruptLink r b f g
 
-  -- the stack bytes that opening a routine takes
-  abbrev pub frameSize : Opener → ℕ
-  frameSize byReset = 0
-  frameSize byCall = 2
-  frameSize byInterrupt = 3
-
   -- the open routines on the stack; b is the address just above the own bytes of the innermost, f
   abbrev pub Chain : List ℕ → ℕ → Frame → List Frame → Type 0
   Chain r b f [] = (f .opener ≡ byReset) × (f .routine ≡ 1) × (b ≡ C .top) × Room b f
@@ -167,32 +196,6 @@ module _ (C : Certificate) where
     pub stack : Stack loaded r pc f fs
 
   -- An instruction as its summary says --
-
-  abbrev pub Effect : Change → List ℕ → List ℕ → ℕ → Type 0
-  Effect unchanged r r′ x = at r′ x ≡ at r x
-  Effect (changed (Number n)) r r′ x = at r′ x ≡ n
-  Effect (changed OneMore) r r′ x = at r′ x ≡ (at r x + 1) % 256
-  Effect (changed OneLess) r r′ x = at r′ x ≡ (at r x + 255) % 256
-  Effect (changed (AtMost n)) r r′ x = at r′ x ≤ n
-  Effect (changed (CopyOf y)) r r′ x = y .0 < ramEnd → at r′ x ≡ at r (y .0)
-  Effect (changed Unknown) r r′ x = Unit {0}
-
-  abbrev pub FlagsAfter : FlagEffect → List ℕ → List ℕ → Type 0
-  FlagsAfter Kept r r′ = at r′ flagsCell ≡ at r flagsCell
-  FlagsAfter Changed r r′ = Unit {0}
-  FlagsAfter (Compared x k) r r′ = x .0 < ramEnd → at r′ flagsCell ≡ compareFlags (at r (x .0)) k
-
-  abbrev pub spAfter : StackEffect → ℕ → ℕ
-  spAfter Same s = s
-  spAfter Push s = s - 1
-  spAfter Pop s = s + 1
-  spAfter (Load n) s = n
-
-  abbrev pub enabledAfter : Control → Bool → Bool
-  enabledAfter Control.Nothing b = b
-  enabledAfter Enable b = true
-  enabledAfter Disable b = false
-  enabledAfter Wait b = b
 
   -- the registers r′ after an instruction at a with summary S on the registers r
   pub record Refines (a : ℕ) (S : Summary) (r r′ : List ℕ) : Type 0 where

@@ -5,6 +5,7 @@ pub mod Chain
 pub mod Coherent
 pub mod DecodedShape
 pub mod Edge
+pub mod Exact
 pub mod Facts
 pub mod Instruction
 pub mod Interrupts

@@ -4,25 +4,24 @@ use mathlib.Core.Path.{_≡_, refl, sym, _∙_, ap}
 use mathlib.Core.Logic.{_≢_, _⊎_, inl, inr, ⊎-elim}
 use mathlib.Core.Bool.{Bool, true, false, _||_, _&&_}
 use mathlib.Core.List.{List, [], _∷_, map}
-use Prim.Native.Nat.{ℕ, _+_, _*_, _/_, _%_, _≤_, _<_}
+use Prim.Native.Nat.{ℕ, _/_, _%_, _<_}
 use native.Mathlib.Omega.{arith}
 use lib.Dec.{T, eqb, ltb, eqb→eq, ltb→lt}
 use lib.Bits.{bitAnd}
-use lib.ListN.{length, getD, set, length-set}
+use lib.ListN.{getD, set, length-set}
 use lib.Seq.{getD-set-same, getD-set-other}
-use Rattle.base.specs.Choice.{pick, from}
-use Rattle.base.specs.Table.{table-at}
+use Rattle.base.specs.Addresses.{flagsCell, spCell, symCell}
 use Rattle.base.specs.Formula.{of-true, sound, test, eq, _&_, _⇒_, forallBelow}
 use Rattle.base.specs.Cells.{set-cells}
 use Rattle.chip.specs.Registers.{mappedOf, keptBits, keptOf, writtenOf, loadOf, storeOf, among, keptRows, readOnly, testRegister}
-use Rattle.chip.specs.Laws.{load-ram, load-byte, store-length, store-other, store-same, store-ram, store-bytes}
+use Rattle.chip.specs.Laws.{load-byte, store-length, store-other, store-same, store-bytes}
 use Rattle.chip.specs.Interrupts.{interruptsEnabled, setInterruptsOf}
 use Rattle.chip.specs.InterruptLaws.{set-interrupts-length, set-interrupts-other, set-interrupts-bytes}
 use Rattle.alu.specs.declared.FlagUpdate.{FlagUpdate}
 use Rattle.alu.specs.declared.FlagUpdate.the-variants.{Unchanged, Carry, Result, CarryResult}
 use Rattle.alu.specs.Flags.{update}
-use Rattle.alu.specs.Laws.{update-bound, update-low, update-unchanged}
-use Rattle.semantics.specs.Operands.{flagsCell, spCell, symCell, spOf, withFlags, lowered, raised}
+use Rattle.alu.specs.Laws.{update-bound, update-low}
+use Rattle.semantics.specs.Operands.{withFlags}
 use Rattle.safety.specs.Invariant.{at, Registers}
 
 -- a schedule record holds bytes

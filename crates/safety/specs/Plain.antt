@@ -8,6 +8,7 @@ use Prim.Native.Nat.{ℕ, _+_, _≤_, _<_}
 use native.Mathlib.Omega.{arith}
 use lib.Dec.{T}
 use Rattle.base.specs.declared.RomAddr.{RomAddr}
+use Rattle.base.specs.Addresses.{flagsCell, spCell, symCell}
 use Rattle.base.specs.Choice.{pick}
 use Rattle.base.specs.Formula.{Formula, Holds, eqb-yes}
 use Rattle.chip.specs.Interrupts.{interruptsEnabled, postOf}
@@ -15,7 +16,6 @@ use Rattle.chip.specs.InterruptLaws.{post-length, post-other, post-bytes}
 use Rattle.alu.specs.Flags.{condition}
 use Rattle.alu.specs.Operations.{compareFlags}
 use Rattle.alu.specs.Laws.{condition-never, condition-always}
-use Rattle.semantics.specs.Operands.{flagsCell, spCell, symCell}
 use Rattle.certificate.specs.declared.StackEffect.{StackEffect}
 use Rattle.certificate.specs.declared.StackEffect.the-variants.{Same, Push, Pop, Load}
 use Rattle.certificate.specs.declared.Control.{Control}
@@ -24,7 +24,8 @@ use Rattle.certificate.specs.declared.Flow.{Flow}
 use Rattle.certificate.specs.declared.Flow.the-variants.{Step}
 use Rattle.certificate.specs.declared.Summary.{Summary}
 use Rattle.certificate.specs.Layout.{Certificate}
-use Rattle.safety.specs.Rules.{noCell, ramEnd, unloaded, Edge, boundAt, controlAllowed, enableRule, stackLoad, stackRule, depthAfter, edges, successor, changeOf, edge26, edge27, rule21, rule22, rule23, rule24, rule25, rule26, rule27}
+use Rattle.safety.specs.Rules.{noCell, ramEnd, unloaded, Edge, boundAt, controlAllowed, enableRule, stackLoad, stackRule, depthAfter}
+use Rattle.safety.specs.Rules.{edges, successor, changeOf, edge26, edge27, rule21, rule22, rule23, rule24, rule25, rule26, rule27}
 use Rattle.safety.specs.Verdicts.{summaryAt, nextAt, costAt}
 use Rattle.safety.specs.Statement.{Frame, spends, outward}
 use Rattle.safety.specs.Invariant.{at, Registers, Claims, firstNow, reserve, Chain, Stack, Invariant, Refines, Before, spAfter, enabledAfter}
@@ -54,9 +55,9 @@ rules-of C image a h =
 
 -- The edge that is taken --
 
-pub edge-taken : (C : Certificate) (n : ℕ) (to : RomAddr) (next f : ℕ) (rule : Edge → Formula) → Holds (edges (Step n to) next rule)
+pub edge-taken : (n : ℕ) (to : RomAddr) (next f : ℕ) (rule : Edge → Formula) → Holds (edges (Step n to) next rule)
     → Holds (rule (record { condition = n; outcome = condition n f; to = pick (condition n f) (to .0) next }))
-edge-taken C n to next f rule m = go (condition n f) refl
+edge-taken n to next f rule m = go (condition n f) refl
   where
     clash : true ≡ false → ⊥
     clash e = subst T e tt
@@ -66,10 +67,10 @@ edge-taken C n to next f rule m = go (condition n f) refl
     go false e = m .0 (λ q. clash (sym (condition-always f) ∙ ap (λ (k : ℕ). condition k f) (sym q) ∙ e))
 
 -- the same, of a flow that is known to be a step
-pub edge-of : (C : Certificate) (flow : Flow) (n : ℕ) (to : RomAddr) → flow ≡ Step n to → (next : ℕ) (r : List ℕ) (rule : Edge → Formula)
+pub edge-of : (flow : Flow) (n : ℕ) (to : RomAddr) → flow ≡ Step n to → (next : ℕ) (r : List ℕ) (rule : Edge → Formula)
     → Holds (edges flow next rule) → Holds (rule (taken n r (pick (condition n (at r flagsCell)) (to .0) next)))
-edge-of C flow n to e next r rule m =
-    edge-taken C n to next (at r flagsCell) rule (subst (λ (k : Flow). Holds (edges k next rule)) e m)
+edge-of flow n to e next r rule m =
+    edge-taken n to next (at r flagsCell) rule (subst (λ (k : Flow). Holds (edges k next rule)) e m)
 
 -- claims stay where the cells of the routine's own class stay
 pub claims-kept : (C : Certificate) (t : ℕ) (r r′ : List ℕ) → EntryFacts C t → Registers r′
@@ -90,22 +91,22 @@ pub reserve-main : (C : Certificate) (s : ℕ) → s ≡ 1 → reserve C s ≡ 3
 unfolding reserve
 reserve-main C s q = rw (eqb-yes q) refl
 
+-- what an instruction may rely on
+pub before-of : (C : Certificate) (ld : Bool) (r : List ℕ) (a : ℕ) (f : Frame) (fs : List Frame) → Invariant C ld r a f fs → Before C a r
+before-of C true r a f fs v =
+    let l = v .stack in
+    let b = at r spCell + C .depth a in
+    let h = chain-top C r b f fs (l .chain) in
+    let k = chain-room C r b f fs (l .chain) in
+    let n : C .need (C .routine a) ≡ C .need (f .routine) = ap (C .need) (v .home) in
+    record { registers = v .registers; claims = v .claims; lowest = λ d. omega arith; highest = λ d. omega arith }
+before-of C false r a f fs v =
+    let l = v .stack .unloaded in
+    record { registers = v .registers; claims = v .claims; lowest = λ d. absurd (omega arith); highest = λ d. absurd (omega arith) }
+
 module _ (C : Certificate) (image : List ℕ) (global : Global C image) where
   pub entry-of : (ld : Bool) (r : List ℕ) (a : ℕ) (f : Frame) (fs : List Frame) → Invariant C ld r a f fs → EntryFacts C a
   entry-of ld r a f fs v = global .entry a (v .inRom) (v .used)
-
-  -- what an instruction may rely on
-  pub before-of : (ld : Bool) (r : List ℕ) (a : ℕ) (f : Frame) (fs : List Frame) → Invariant C ld r a f fs → Before C a r
-  before-of true r a f fs v =
-      let l = v .stack in
-      let b = at r spCell + C .depth a in
-      let h = chain-top C r b f fs (l .chain) in
-      let k = chain-room C r b f fs (l .chain) in
-      let n : C .need (C .routine a) ≡ C .need (f .routine) = ap (C .need) (v .home) in
-      record { registers = v .registers; claims = v .claims; lowest = λ d. omega arith; highest = λ d. omega arith }
-  before-of false r a f fs v =
-      let l = v .stack .unloaded in
-      record { registers = v .registers; claims = v .claims; lowest = λ d. absurd (omega arith); highest = λ d. absurd (omega arith) }
 
   -- the chain of the innermost routine, after a step that keeps what it must
   pub chain-step : (c : ℕ) (r r′ : List ℕ) (a : ℕ) (f : Frame) (fs : List Frame) → EntryFacts C a → C .routine a ≡ f .routine
@@ -179,8 +180,8 @@ module _ (C : Certificate) (image : List ℕ) (global : Global C image) where
 
   stack-step : (ld : Bool) (k : StackEffect) (c : ℕ) (r r′ : List ℕ) (a t : ℕ) (f : Frame) (fs : List Frame) → EntryFacts C a
       → C .routine a ≡ f .routine → Keeps C (C .side (C .routine a)) (C .routine a) (at r spCell + C .depth a) r r′
-      → Before C a r → Holds (stackLoad C a k) → Holds (stackRule C a k) → C .routine t ≡ C .routine a
-      → C .depth t ≡ depthAfter k (C .depth a) → at r′ spCell ≡ spAfter C k (at r spCell) → Stack C ld r a f fs
+      → Before C a r → Holds (stackLoad (C .depth a) (C .top) k) → Holds (stackRule (C .depth a) (C .need (C .routine a)) k) → C .routine t ≡ C .routine a
+      → C .depth t ≡ depthAfter k (C .depth a) → at r′ spCell ≡ spAfter k (at r spCell) → Stack C ld r a f fs
       → Stack C (loadedAfter k ld) r′ t (spends c f) (outward c fs (f .opener))
   stack-step true k c r r′ a t f fs e h kp pre ml m ht hd hs l = go k ml m hd hs
     where
@@ -199,8 +200,8 @@ module _ (C : Certificate) (image : List ℕ) (global : Global C image) where
       lo : C .floor + C .need (C .routine a) ≤ at r spCell + C .depth a
       lo = pre .lowest (l .loaded)
 
-      go : (k : StackEffect) → Holds (stackLoad C a k) → Holds (stackRule C a k) → C .depth t ≡ depthAfter k (C .depth a)
-          → at r′ spCell ≡ spAfter C k (at r spCell) → Stack C (loadedAfter k true) r′ t (spends c f) (outward c fs (f .opener))
+      go : (k : StackEffect) → Holds (stackLoad (C .depth a) (C .top) k) → Holds (stackRule (C .depth a) (C .need (C .routine a)) k) → C .depth t ≡ depthAfter k (C .depth a)
+          → at r′ spCell ≡ spAfter k (at r spCell) → Stack C (loadedAfter k true) r′ t (spends c f) (outward c fs (f .opener))
       go Same ml m hd hs = record { loaded = omega (arith, hi, l .loaded); room = omega (arith, nd, l .room); chain = mv (omega (arith, lo)) }
       go Push ml m hd hs = record { loaded = omega (arith, hi, l .loaded); room = omega (arith, nd, l .room); chain = mv (omega (arith, lo)) }
       go Pop ml m hd hs = record { loaded = omega (arith, hi, l .loaded); room = omega (arith, nd, l .room); chain = mv (omega (arith, lo)) }
@@ -225,11 +226,11 @@ module _ (C : Certificate) (image : List ℕ) (global : Global C image) where
   stack-loaded false r a f fs s h = absurd (h (s .unloaded))
 
   enabled-step : (k : StackEffect) (m : Control) (ld b : Bool) (a : ℕ) → (b ≡ true → (C .side (C .routine a) ≡ 1) × (ld ≡ true))
-      → Holds (controlAllowed C a m) → Holds (enableRule C a m) → (C .depth a ≢ unloaded → ld ≡ true) → enabledAfter C m b ≡ true
+      → Holds (controlAllowed (C .side (C .routine a)) m) → Holds (enableRule (C .depth a) m) → (C .depth a ≢ unloaded → ld ≡ true) → enabledAfter m b ≡ true
       → (C .side (C .routine a) ≡ 1) × (loadedAfter k ld ≡ true)
   enabled-step k m ld b a v h1 h2 on q = let z = go m h1 h2 q in (z .0, later k (z .1))
     where
-      go : (m : Control) → Holds (controlAllowed C a m) → Holds (enableRule C a m) → enabledAfter C m b ≡ true
+      go : (m : Control) → Holds (controlAllowed (C .side (C .routine a)) m) → Holds (enableRule (C .depth a) m) → enabledAfter m b ≡ true
           → (C .side (C .routine a) ≡ 1) × (ld ≡ true)
       go Control.Nothing h1 h2 q = v q
       go Enable h1 h2 q = (h1, on h2)
@@ -249,15 +250,15 @@ module _ (C : Certificate) (image : List ℕ) (global : Global C image) where
   inv-step more ld r r′ a f fs S next c n to flow co rules v ref =
       let t : ℕ = pick (condition n (at r flagsCell)) (to .0) next in
       let e = entry-of ld r a f fs v in
-      let suc = edge-of C (S .flow) n to flow next r (λ e. successor C a (e .to)) (rules .r21 (rules .r22) .0) in
-      let deep = edge-of C (S .flow) n to flow next r _ (rules .r25 .1 .1 .0) in
+      let suc = edge-of (S .flow) n to flow next r (λ e. successor C (C .routine a) (e .to)) (rules .r21 (rules .r22) .0) in
+      let deep = edge-of (S .flow) n to flow next r _ (rules .r25 .1 .1 .0) in
       let ht : C .routine t ≡ C .routine a = suc .1 in
       let u = v .used in
       let et : EntryFacts C t = global .entry t (suc .0) (omega arith) in
       let yes = feasible-now C more a e r (v .registers) (v .claims) (v .compare) n t in
-      let e26 = edge-of C (S .flow) n to flow next r (edge26 C a S) (rules .r26 .0) yes in
-      let e27 = edge-of C (S .flow) n to flow next r (edge27 C a S c) (rules .r27 .0) yes in
-      let copies = reads-copies C (S .write) (S .second) (co .reads) (rules .r23 .1 .0) in
+      let e26 = edge-of (S .flow) n to flow next r (edge26 C a S) (rules .r26 .0) yes in
+      let e27 = edge-of (S .flow) n to flow next r (edge27 C a S c) (rules .r27 .0) yes in
+      let copies = reads-copies (S .write) (S .second) (co .reads) (rules .r23 .1 .0) in
       let ct : Claims C t r′
       = claims-follow C more a e r (v .registers) (v .claims) (v .compare) n t (S .write) copies r′ (ref .registers) (ref .cells) et (e26 .0) in
       let sd : C .side (C .routine t) ≡ C .side (C .routine a) = ap (C .side) ht in
@@ -286,8 +287,8 @@ module _ (C : Certificate) (image : List ℕ) (global : Global C image) where
             (record {
               stack = λ x h1 h2 h3. ref .stack x (omega arith) h2 h3;
               cells = λ x h1 h2 h3 h4.
-                  kept-effect C (changeOf C a (S .write) x) r r′ x
+                  kept-effect (changeOf C a (S .write) x) r r′ x
                   (kept-cell C a e x h3 h4 (S .write) (omega arith) (rules .r23 .1 .1 .0) (rules .r24 .1 .1 .0)) (ref .cells x h1 h2);
             })
-            (before-of ld r a f fs v) (rules .r23 .1 .1 .1) (rules .r25 .0) ht deep (ref .pointer) (v .stack);
+            (before-of C ld r a f fs v) (rules .r23 .1 .1 .1) (rules .r25 .0) ht deep (ref .pointer) (v .stack);
       }

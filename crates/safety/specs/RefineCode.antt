@@ -10,6 +10,7 @@ use lib.Dec.{eqb, ltb}
 use lib.ListN.{length, getD}
 use Rattle.base.specs.declared.RegAddr.{RegAddr}
 use Rattle.base.specs.declared.RomAddr.{RomAddr}
+use Rattle.base.specs.Addresses.{flagsCell}
 use Rattle.base.specs.Choice.{pick}
 use Rattle.base.specs.Formula.{Holds, eq, _‖_, decide-false, ltb-yes}
 use Rattle.base.specs.Lengths.{romLength}
@@ -19,7 +20,7 @@ use Rattle.alu.specs.Laws.{condition-never}
 use Rattle.action.specs.declared.CodeAddress.{CodeAddress}
 use Rattle.action.specs.declared.CodeAddress.the-variants.{Direct, Short, Long}
 use Rattle.action.specs.declared.Action.{Action}
-use Rattle.semantics.specs.Operands.{flagsCell, wordAt}
+use Rattle.semantics.specs.Operands.{wordAt}
 use Rattle.semantics.specs.Execute.{executeOf, codeAddress, loadCodeOf, steppedPair, loadCodeStepOf}
 use Rattle.certificate.specs.declared.NewValue.the-variants.{Unknown}
 use Rattle.certificate.specs.declared.Write.{Write}
@@ -91,7 +92,7 @@ module _ (C : Certificate) (image : List ℕ) (gl : Global C image) (size : leng
     three-other k nx ny nz =
         store-other (storeOf (storeOf r x u) y v) z w k nz ∙ store-other (storeOf r x u) y v k ny ∙ store-other r x u k nx
 
-    three-cells : (k : ℕ) (b : Bool) → (eqb k x || eqb k y || eqb k z) ≡ b → Effect C (pick b (changed Unknown) unchanged) r (three r x y z u v w) k
+    three-cells : (k : ℕ) (b : Bool) → (eqb k x || eqb k y || eqb k z) ≡ b → Effect (pick b (changed Unknown) unchanged) r (three r x y z u v w) k
     three-cells k true q = tt
     three-cells k false q =
         let n : Holds ((eq k x ‖ eq k y) ‖ eq k z) → ⊥ = decide-false ((eq k x ‖ eq k y) ‖ eq k z) refl q in

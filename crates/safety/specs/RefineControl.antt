@@ -7,6 +7,7 @@ use Prim.Native.Nat.{ℕ, _<_}
 use native.Mathlib.Omega.{arith}
 use lib.ListN.{length, getD}
 use Rattle.base.specs.declared.RomAddr.{RomAddr}
+use Rattle.base.specs.Addresses.{flagsCell, spCell}
 use Rattle.base.specs.Choice.{pick}
 use Rattle.base.specs.Lengths.{romLength}
 use Rattle.chip.specs.Interrupts.{interruptsEnabled, setInterruptsOf}
@@ -15,7 +16,7 @@ use Rattle.alu.specs.Flags.{carry, condition}
 use Rattle.alu.specs.Laws.{condition-never}
 use Rattle.action.specs.declared.CarryChange.{CarryChange}
 use Rattle.action.specs.declared.Action.{Action}
-use Rattle.semantics.specs.Operands.{flagsCell, spCell, withFlags}
+use Rattle.semantics.specs.Operands.{withFlags}
 use Rattle.semantics.specs.Execute.{executeOf, jumpOf, carryOf, carryChanged}
 use Rattle.certificate.specs.declared.Write.{Write}
 use Rattle.certificate.specs.declared.FlagEffect.the-variants.{Kept}
@@ -41,7 +42,7 @@ module _ (C : Certificate) (image : List ℕ) (gl : Global C image) (size : leng
   nothing = nothing-written C a r (pre .registers)
 
   -- no register changes
-  same : (c : Control) (to : Flow) → interruptsEnabled r ≡ enabledAfter C c (interruptsEnabled r) → Refines C a (controlling Kept c to) r r
+  same : (c : Control) (to : Flow) → interruptsEnabled r ≡ enabledAfter c (interruptsEnabled r) → Refines C a (controlling Kept c to) r r
   same c to h = refines-beyond C image gl a e (controlling Kept c to) r r r nothing (pre .registers) (λ x l. refl) refl refl h
 
   pub does-jump : (cc : ℕ) (to : RomAddr) → Shaped (Action.Jump cc to) → StepRules C a (summaryOf (Action.Jump cc to))
@@ -78,7 +79,7 @@ module _ (C : Certificate) (image : List ℕ) (gl : Global C image) (size : leng
       (refines-flags C image gl a e (summaryOf (Action.Carry c)) r r u refl refl nothing tt) tt
 
   -- EI and DI
-  switched : (on : Bool) → enabledAfter C (switching on) (interruptsEnabled r) ≡ on
+  switched : (on : Bool) → enabledAfter (switching on) (interruptsEnabled r) ≡ on
   switched true = refl
   switched false = refl
 

@@ -9,6 +9,7 @@ use native.Mathlib.Omega.{arith}
 use lib.Dec.{eqb, eqb→eq}
 use Rattle.base.specs.declared.RegAddr.{RegAddr}
 use Rattle.base.specs.declared.RomAddr.{RomAddr}
+use Rattle.base.specs.Addresses.{flagsCell, spCell, symCell}
 use Rattle.base.specs.Choice.{pick}
 use Rattle.base.specs.Formula.{of-true}
 use Rattle.isa.specs.declared.Alu.{Alu}
@@ -23,7 +24,7 @@ use Rattle.alu.specs.Laws.{update-unchanged, compare-leaves, operate-bound, mod
 use Rattle.action.specs.declared.Operand.{Operand}
 use Rattle.action.specs.declared.Operand.the-variants.{Register, Indirect, Immediate}
 use Rattle.action.specs.declared.Action.{Action}
-use Rattle.semantics.specs.Operands.{placeOf, fetchOf, withFlags, flagsCell, spCell, symCell}
+use Rattle.semantics.specs.Operands.{placeOf, fetchOf, withFlags}
 use Rattle.semantics.specs.Execute.{storeIf, binaryOf, modifyOf, loadInto, executeOf}
 use Rattle.certificate.specs.declared.NewValue.{NewValue}
 use Rattle.certificate.specs.declared.NewValue.the-variants.{Number, CopyOf, Unknown}
@@ -40,79 +41,80 @@ use Rattle.safety.specs.Invariant.{at, Registers, FlagsAfter, Refines, B
 use Rattle.safety.specs.Facts.{Global, EntryFacts}
 use Rattle.safety.specs.Memory.{Input, load-small, store-registers, flags-same, enabled-same}
 use Rattle.safety.specs.StepRules.{StepRules}
-use Rattle.safety.specs.RefineOperands.{HasPlace, Allowed, anyPlace, writablePlace, Gives, Written, may-read, may-write, fetch-ram, fetch-byte, place-mapped, fetch-mapped, in-read-table, in-write-table, nothing-written, place-written, refines-beyond, refines-written, refines-flags, does-onward}
+use Rattle.safety.specs.RefineOperands.{HasPlace, Allowed, anyPlace, writablePlace, Gives, Written, may-read, may-write, fetch-ram, fetch-byte, place-mapped, fetch-mapped}
+use Rattle.safety.specs.RefineOperands.{in-read-table, in-write-table, nothing-written, place-written, refines-beyond, refines-written, refines-flags, does-onward}
 
 -- FLAGS, kept by the write, after the flags that an instruction names
-modify-flags : (C : Certificate) (r r′ : List ℕ) (op : Unary) (x : ℕ) (c : Bool) → Registers r′ → at r′ flagsCell ≡ at r flagsCell
-    → FlagsAfter C (modifyFlags op) r (withFlags r′ (modify op x c .flags))
+modify-flags : (r r′ : List ℕ) (op : Unary) (x : ℕ) (c : Bool) → Registers r′ → at r′ flagsCell ≡ at r flagsCell
+    → FlagsAfter (modifyFlags op) r (withFlags r′ (modify op x c .flags))
 unfolding modify
-modify-flags C r r′ Dec x c g k = tt
-modify-flags C r r′ Rlc x c g k = tt
-modify-flags C r r′ Inc x c g k = tt
-modify-flags C r r′ Com x c g k = tt
-modify-flags C r r′ Rl x c g k = tt
-modify-flags C r r′ Clr x c g k = flags-same r′ (modify Clr x c .flags) g ∙ update-unchanged (at r′ flagsCell) ∙ k
-modify-flags C r r′ Rrc x c g k = tt
-modify-flags C r r′ Sra x c g k = tt
-modify-flags C r r′ Rr x c g k = tt
+modify-flags r r′ Dec x c g k = tt
+modify-flags r r′ Rlc x c g k = tt
+modify-flags r r′ Inc x c g k = tt
+modify-flags r r′ Com x c g k = tt
+modify-flags r r′ Rl x c g k = tt
+modify-flags r r′ Clr x c g k = flags-same r′ (modify Clr x c .flags) g ∙ update-unchanged (at r′ flagsCell) ∙ k
+modify-flags r r′ Rrc x c g k = tt
+modify-flags r r′ Sra x c g k = tt
+modify-flags r r′ Rr x c g k = tt
 
 -- CP with a number compares the byte of its cell
-binary-flags : (C : Certificate) (r rec : List ℕ) (op : Alu) (x : RegAddr) (s : Operand) (c : Bool) → Registers r
-    → FlagsAfter C (binaryFlags op (Register x) s) r (withFlags r (operate op (loadOf r rec (x .0)) (fetchOf r rec s .value) c .flags))
+binary-flags : (r rec : List ℕ) (op : Alu) (x : RegAddr) (s : Operand) (c : Bool) → Registers r
+    → FlagsAfter (binaryFlags op (Register x) s) r (withFlags r (operate op (loadOf r rec (x .0)) (fetchOf r rec s .value) c .flags))
 unfolding fetchOf
-binary-flags C r rec Cp x (Register y) c g = tt
-binary-flags C r rec Cp x (Indirect p o) c g = tt
-binary-flags C r rec Cp x (Immediate k) c g = λ h.
+binary-flags r rec Cp x (Register y) c g = tt
+binary-flags r rec Cp x (Indirect p o) c g = tt
+binary-flags r rec Cp x (Immediate k) c g = λ h.
     flags-same r (operate Cp (loadOf r rec (x .0)) k c .flags) g
     ∙ compare-leaves (at r flagsCell) (loadOf r rec (x .0)) k c ∙ rw (load-ram r rec (x .0) h)
-binary-flags C r rec Add x s c g = tt
-binary-flags C r rec Adc x s c g = tt
-binary-flags C r rec Sub x s c g = tt
-binary-flags C r rec Sbc x s c g = tt
-binary-flags C r rec Or x s c g = tt
-binary-flags C r rec And x s c g = tt
-binary-flags C r rec Tcm x s c g = tt
-binary-flags C r rec Tm x s c g = tt
-binary-flags C r rec Xor x s c g = tt
+binary-flags r rec Add x s c g = tt
+binary-flags r rec Adc x s c g = tt
+binary-flags r rec Sub x s c g = tt
+binary-flags r rec Sbc x s c g = tt
+binary-flags r rec Or x s c g = tt
+binary-flags r rec And x s c g = tt
+binary-flags r rec Tcm x s c g = tt
+binary-flags r rec Tm x s c g = tt
+binary-flags r rec Xor x s c g = tt
 
 -- what the summaries say of the stored values
-modify-gives : (C : Certificate) (a : ℕ) (r rec : List ℕ) (op : Unary) (d : Operand) (c : Bool)
-    → Gives C a d (modifyValue op) r (modify op (loadOf r rec (placeOf r rec d .addr .0)) c .value)
+modify-gives : (r rec : List ℕ) (op : Unary) (d : Operand) (c : Bool)
+    → Gives d (modifyValue op) r (modify op (loadOf r rec (placeOf r rec d .addr .0)) c .value)
 unfolding modify increment decrement placeOf
-modify-gives C a r rec Dec (Register x) c = λ l r′ q. q ∙ rw (load-ram r rec (x .0) l)
-modify-gives C a r rec Inc (Register x) c = λ l r′ q. q ∙ rw (load-ram r rec (x .0) l)
-modify-gives C a r rec Clr (Register x) c = λ l r′ q. q
-modify-gives C a r rec Rlc (Register x) c = λ l r′ q. tt
-modify-gives C a r rec Com (Register x) c = λ l r′ q. tt
-modify-gives C a r rec Rl (Register x) c = λ l r′ q. tt
-modify-gives C a r rec Rrc (Register x) c = λ l r′ q. tt
-modify-gives C a r rec Sra (Register x) c = λ l r′ q. tt
-modify-gives C a r rec Rr (Register x) c = λ l r′ q. tt
-modify-gives C a r rec op (Indirect p o) c = tt
-modify-gives C a r rec op (Immediate n) c = tt
+modify-gives r rec Dec (Register x) c = λ l r′ q. q ∙ rw (load-ram r rec (x .0) l)
+modify-gives r rec Inc (Register x) c = λ l r′ q. q ∙ rw (load-ram r rec (x .0) l)
+modify-gives r rec Clr (Register x) c = λ l r′ q. q
+modify-gives r rec Rlc (Register x) c = λ l r′ q. tt
+modify-gives r rec Com (Register x) c = λ l r′ q. tt
+modify-gives r rec Rl (Register x) c = λ l r′ q. tt
+modify-gives r rec Rrc (Register x) c = λ l r′ q. tt
+modify-gives r rec Sra (Register x) c = λ l r′ q. tt
+modify-gives r rec Rr (Register x) c = λ l r′ q. tt
+modify-gives r rec op (Indirect p o) c = tt
+modify-gives r rec op (Immediate n) c = tt
 
-binary-gives : (C : Certificate) (a : ℕ) (r rec : List ℕ) (op : Alu) (x : RegAddr) (s : Operand) (y : ℕ) (c : Bool)
-    → Gives C a (Register x) (binaryValue op s) r (operate op y (fetchOf r rec s .value) c .value)
+binary-gives : (r rec : List ℕ) (op : Alu) (x : RegAddr) (s : Operand) (y : ℕ) (c : Bool)
+    → Gives (Register x) (binaryValue op s) r (operate op y (fetchOf r rec s .value) c .value)
 unfolding fetchOf
-binary-gives C a r rec And x (Immediate n) y c = λ l r′ q. omega (arith, and-source y n c)
-binary-gives C a r rec And x (Register z) y c = λ l r′ q. tt
-binary-gives C a r rec And x (Indirect p o) y c = λ l r′ q. tt
-binary-gives C a r rec Add x s y c = λ l r′ q. tt
-binary-gives C a r rec Adc x s y c = λ l r′ q. tt
-binary-gives C a r rec Sub x s y c = λ l r′ q. tt
-binary-gives C a r rec Sbc x s y c = λ l r′ q. tt
-binary-gives C a r rec Or x s y c = λ l r′ q. tt
-binary-gives C a r rec Tcm x s y c = λ l r′ q. tt
-binary-gives C a r rec Tm x s y c = λ l r′ q. tt
-binary-gives C a r rec Cp x s y c = λ l r′ q. tt
-binary-gives C a r rec Xor x s y c = λ l r′ q. tt
+binary-gives r rec And x (Immediate n) y c = λ l r′ q. omega (arith, and-source y n c)
+binary-gives r rec And x (Register z) y c = λ l r′ q. tt
+binary-gives r rec And x (Indirect p o) y c = λ l r′ q. tt
+binary-gives r rec Add x s y c = λ l r′ q. tt
+binary-gives r rec Adc x s y c = λ l r′ q. tt
+binary-gives r rec Sub x s y c = λ l r′ q. tt
+binary-gives r rec Sbc x s y c = λ l r′ q. tt
+binary-gives r rec Or x s y c = λ l r′ q. tt
+binary-gives r rec Tcm x s y c = λ l r′ q. tt
+binary-gives r rec Tm x s y c = λ l r′ q. tt
+binary-gives r rec Cp x s y c = λ l r′ q. tt
+binary-gives r rec Xor x s y c = λ l r′ q. tt
 
 module _ (C : Certificate) (image : List ℕ) (gl : Global C image) (a : ℕ) (e : EntryFacts C a) (r rec : List ℕ) (pre : Before C a r) (input : Input rec) (next : RomAddr) where
   -- the carry before
   abbrev carryNow : Bool
   carryNow = carry (at r flagsCell)
 
-  written-at : (d : Operand) (n : NewValue) (v : ℕ) → HasPlace d → Allowed C a (writablePlace C a) d → v < 256 → Gives C a d n r v
+  written-at : (d : Operand) (n : NewValue) (v : ℕ) → HasPlace d → Allowed C a (writablePlace C a) d → v < 256 → Gives d n r v
       → Written C a (writeTo d n) r (storeOf r (placeOf r rec d .addr .0) v)
   written-at d n v s h hv k = place-written C image gl a e r rec (pre .registers) (pre .claims) d n v s h hv k
 
@@ -122,10 +124,10 @@ module _ (C : Certificate) (image : List ℕ) (gl : Global C image) (a : ℕ) (e
   fetch-ok : (s : Operand) → Allowed C a anyPlace s → fetchOf r rec s .ok ≡ true
   fetch-ok s h = fetch-mapped C image gl a e r rec (pre .claims) s h
 
-  read-table : (s : Operand) → Allowed C a anyPlace s → InTable C image (readTable C a (reading s) 0) r rec s
+  read-table : (s : Operand) → Allowed C a anyPlace s → InTable C (readTable C a (reading s) 0) r rec s
   read-table s h = in-read-table C image gl a e r rec (pre .claims) anyPlace s 0 h
 
-  write-table : (d : Operand) (n : NewValue) (t : ℕ) → Allowed C a (writablePlace C a) d → InTable C image (writeTable C a (writeTo d n) t) r rec d
+  write-table : (d : Operand) (n : NewValue) (t : ℕ) → Allowed C a (writablePlace C a) d → InTable C (writeTable C a (writeTo d n) t) r rec d
   write-table d n t h = in-write-table C image gl a e r rec (pre .claims) (writablePlace C a) d n t h
 
   fetched-byte : (s : Operand) → Small s → fetchOf r rec s .value < 256
@@ -141,10 +143,10 @@ module _ (C : Certificate) (image : List ℕ) (gl : Global C image) (a : ℕ) (e
       let x = loadOf r rec (placeOf r rec d .addr .0) in
       let m = modify op x carryNow in
       let bound = modify-bound op x carryNow (load-small r rec (pre .registers) input _) in
-      let w = written-at d (modifyValue op) (m .value) p target bound (modify-gives C a r rec op d carryNow) in
+      let w = written-at d (modifyValue op) (m .value) p target bound (modify-gives r rec op d carryNow) in
       does-onward C image gl a e _ (Action.Modify op d) r rec _ next (placeOf r rec d .ok) refl (place-ok d p target)
       (refines-flags C image gl a e _ r (storeOf r (placeOf r rec d .addr .0) (m .value)) (m .flags) refl refl w
-      (modify-flags C r _ op x carryNow (w .registers) (w .others flagsCell (gl .flagsClass))))
+      (modify-flags r _ op x carryNow (w .registers) (w .others flagsCell (gl .flagsClass))))
       (write-table d (modifyValue op) 0 target)
 
   pub does-modify : (op : Unary) (d : Operand) → Shaped (Action.Modify op d) → StepRules C a (summaryOf (Action.Modify op d))
@@ -166,13 +168,13 @@ module _ (C : Certificate) (image : List ℕ) (gl : Global C image) (a : ℕ) (e
       let bound = operate-bound op y (fetchOf r rec s .value) carryNow (load-small r rec (pre .registers) input (x .0)) (fetched-byte s h) in
       let may = may-write C a (Register x) (binaryValue op s) (k .r23 .1 .1 .0) (k .r24 .1 .1 .0) in
       refines-flags C image gl a e _ r (storeOf r (x .0) (m .value)) (m .flags) refl refl
-      (written-at (Register x) (binaryValue op s) (m .value) tt may bound (binary-gives C a r rec op x s y carryNow)) tt
+      (written-at (Register x) (binaryValue op s) (m .value) tt may bound (binary-gives r rec op x s y carryNow)) tt
   binary-refines false op x s h k =
-      refines-flags C image gl a e _ r r _ refl refl (nothing-written C a r (pre .registers)) (binary-flags C r rec op x s carryNow (pre .registers))
+      refines-flags C image gl a e _ r r _ refl refl (nothing-written C a r (pre .registers)) (binary-flags r rec op x s carryNow (pre .registers))
 
   -- its registers are mapped, its pointer in the table
   binary-facts : (b : Bool) (op : Alu) (x : RegAddr) (s : Operand) → StepRules C a (binarySummary b op (Register x) s)
-      → (mappedOf (x .0) ≡ true) × (fetchOf r rec s .ok ≡ true) × InTable C image (tableOf C a (binarySummary b op (Register x) s)) r rec s
+      → (mappedOf (x .0) ≡ true) × (fetchOf r rec s .ok ≡ true) × InTable C (tableOf C a (binarySummary b op (Register x) s)) r rec s
   unfolding rule23 rule24 tableOf
   binary-facts true op x s k =
       let source = may-read C a s (k .r23 .1 .0) (k .r24 .1 .0) in
@@ -192,8 +194,8 @@ module _ (C : Certificate) (image : List ℕ) (gl : Global C image) (a : ℕ) (e
   does-binary op (Immediate n) s h k = absurd h
 
   -- LD, but of SP with a number; t: an address that the source's pointer gives lies in the table
-  loads : (d s : Operand) (n : NewValue) → HasPlace d → Small s → Gives C a d n r (fetchOf r rec s .value)
-      → (Allowed C a anyPlace s → InTable C image (tableOf C a (moving (writeTo d n) Access.Nothing (reading s) Kept Same)) r rec s)
+  loads : (d s : Operand) (n : NewValue) → HasPlace d → Small s → Gives d n r (fetchOf r rec s .value)
+      → (Allowed C a anyPlace s → InTable C (tableOf C a (moving (writeTo d n) Access.Nothing (reading s) Kept Same)) r rec s)
       → StepRules C a (moving (writeTo d n) Access.Nothing (reading s) Kept Same)
       → Does C image a (moving (writeTo d n) Access.Nothing (reading s) Kept Same) (Action.Load d s) r rec next 0 0
   unfolding executeOf loadInto tableOf rule23 rule24

@@ -9,6 +9,7 @@ use native.Mathlib.Omega.{arith}
 use lib.Dec.{T, eqb, leb, eqb→eq}
 use Rattle.base.specs.declared.RegAddr.{RegAddr}
 use Rattle.base.specs.declared.RomAddr.{RomAddr}
+use Rattle.base.specs.Addresses.{flagsCell, spCell, symCell}
 use Rattle.base.specs.Choice.{pick}
 use Rattle.base.specs.Formula.{Formula, always, _&_, Holds, of-true, eqb-yes, leb-yes}
 use Rattle.chip.specs.Registers.{mappedOf, loadOf, storeOf}
@@ -19,7 +20,7 @@ use Rattle.alu.specs.Laws.{condition-never}
 use Rattle.action.specs.declared.Operand.{Operand}
 use Rattle.action.specs.declared.Operand.the-variants.{Register, Indirect, Immediate}
 use Rattle.action.specs.declared.Action.{Action}
-use Rattle.semantics.specs.Operands.{placeOf, fetchPlace, fetchOf, withFlags, flagsCell, spCell, symCell}
+use Rattle.semantics.specs.Operands.{placeOf, fetchPlace, fetchOf, withFlags}
 use Rattle.semantics.specs.Execute.{goesOn, executeOf}
 use Rattle.certificate.specs.declared.NewValue.{NewValue}
 use Rattle.certificate.specs.declared.NewValue.the-variants.{Number, OneMore, OneLess, AtMost, CopyOf, Unknown}
@@ -60,6 +61,22 @@ fetch-byte r rec g i (Immediate n) h = h
 abbrev pub anyPlace : ℕ → Formula
 anyPlace x = always
 
+-- what the new value v says of the register that an operand names, where b is stored
+abbrev pub Gives : Operand → NewValue → List ℕ → ℕ → Type 0
+Gives (Register x) v r b = x .0 < ramEnd → (r′ : List ℕ) → at r′ (x .0) ≡ b → Effect (changed v) r r′ (x .0)
+Gives (Indirect p o) v r b = Unit {0}
+Gives (Immediate n) v r b = Unit {0}
+
+-- an effect on a cell that later changes leave alone
+pub effect-along : (v : Change) (r r′ r″ : List ℕ) (x : ℕ) → at r″ x ≡ at r′ x → Effect v r r′ x → Effect v r r″ x
+effect-along unchanged r r′ r″ x q h = q ∙ h
+effect-along (changed (Number n)) r r′ r″ x q h = q ∙ h
+effect-along (changed OneMore) r r′ r″ x q h = q ∙ h
+effect-along (changed OneLess) r r′ r″ x q h = q ∙ h
+effect-along (changed (AtMost n)) r r′ r″ x q h = omega arith
+effect-along (changed (CopyOf y)) r r′ r″ x q h = λ l. q ∙ h l
+effect-along (changed Unknown) r r′ r″ x q h = tt
+
 module _ (C : Certificate) (a : ℕ) where
   -- rules 23 and 24 of an operand: its register is mapped, its pointer's reach lies in one table, and a rule holds of its places
   abbrev pub Allowed : (ℕ → Formula) → Operand → Type 0
@@ -69,14 +86,14 @@ module _ (C : Certificate) (a : ℕ) where
 
   -- the rule of places that are written
   abbrev pub writablePlace : ℕ → Formula
-  writablePlace x = mapped x & writable C a x
+  writablePlace x = mapped x & writable C (C .routine a) x
 
   pub may-read : (s : Operand) → Holds (directRead (reading s)) → Holds (pointedRead C a (reading s)) → Allowed anyPlace s
   may-read (Register x) m t = (m, tt)
   may-read (Indirect p o) m t = t
   may-read (Immediate n) m t = tt
 
-  pub may-write : (d : Operand) (v : NewValue) → Holds (directWrite C a (writeTo d v)) → Holds (pointedWrite C a (writeTo d v))
+  pub may-write : (d : Operand) (v : NewValue) → Holds (directWrite C (C .routine a) (writeTo d v)) → Holds (pointedWrite C a (writeTo d v))
       → Allowed writablePlace d
   may-write (Register x) v m t = (m .0, m)
   may-write (Indirect p o) v m t = t
@@ -95,24 +112,8 @@ module _ (C : Certificate) (a : ℕ) where
   -- r′ is r after the write w; registers of class 0 (FLAGS, SP, SYM, the stack) stay
   pub record Written (w : Write) (r r′ : List ℕ) : Type 0 where
     pub registers : Registers r′
-    pub cells : (x : ℕ) → x < ramEnd → Effect C (changeOf C a w x) r r′ x
+    pub cells : (x : ℕ) → x < ramEnd → Effect (changeOf C a w x) r r′ x
     pub others : (x : ℕ) → C .class x ≡ 0 → at r′ x ≡ at r x
-
-  -- what the new value v says of the register that an operand names, where b is stored
-  abbrev pub Gives : Operand → NewValue → List ℕ → ℕ → Type 0
-  Gives (Register x) v r b = x .0 < ramEnd → (r′ : List ℕ) → at r′ (x .0) ≡ b → Effect C (changed v) r r′ (x .0)
-  Gives (Indirect p o) v r b = Unit {0}
-  Gives (Immediate n) v r b = Unit {0}
-
-  -- an effect on a cell that later changes leave alone
-  pub effect-along : (v : Change) (r r′ r″ : List ℕ) (x : ℕ) → at r″ x ≡ at r′ x → Effect C v r r′ x → Effect C v r r″ x
-  effect-along unchanged r r′ r″ x q h = q ∙ h
-  effect-along (changed (Number n)) r r′ r″ x q h = q ∙ h
-  effect-along (changed OneMore) r r′ r″ x q h = q ∙ h
-  effect-along (changed OneLess) r r′ r″ x q h = q ∙ h
-  effect-along (changed (AtMost n)) r r′ r″ x q h = omega arith
-  effect-along (changed (CopyOf y)) r r′ r″ x q h = λ l. q ∙ h l
-  effect-along (changed Unknown) r r′ r″ x q h = tt
 
   pub nothing-written : (r : List ℕ) → Registers r → Written Write.Nothing r r
   nothing-written r g = record { registers = g; cells = λ x h. refl; others = λ x h. refl }
@@ -172,17 +173,17 @@ module _ (C : Certificate) (image : List ℕ) (gl : Global C image) (a : ℕ) (e
 
     -- a pointer's address lies in the table of the instruction's summary
     in-table : (rule : ℕ → Formula) (p : RegAddr) (o : ℕ) → Holds (reach C a (p .0) o rule)
-        → InTable C image (C .table (low C a (p .0) + o)) r rec (Indirect p o)
+        → InTable C (C .table (low C a (p .0) + o)) r rec (Indirect p o)
     unfolding placeOf
     in-table rule p o h = let z = reached (p .0) o rule h in (z .table, z .some)
 
-    pub in-read-table : (rule : ℕ → Formula) (s : Operand) (t : ℕ) → Allowed C a rule s → InTable C image (readTable C a (reading s) t) r rec s
+    pub in-read-table : (rule : ℕ → Formula) (s : Operand) (t : ℕ) → Allowed C a rule s → InTable C (readTable C a (reading s) t) r rec s
     in-read-table rule (Register x) t h = tt
     in-read-table rule (Indirect p o) t h = in-table rule p o h
     in-read-table rule (Immediate n) t h = tt
 
     pub in-write-table : (rule : ℕ → Formula) (d : Operand) (v : NewValue) (t : ℕ) → Allowed C a rule d
-        → InTable C image (writeTable C a (writeTo d v) t) r rec d
+        → InTable C (writeTable C a (writeTo d v) t) r rec d
     in-write-table rule (Register x) v t h = tt
     in-write-table rule (Indirect p o) v t h = in-table rule p o h
     in-write-table rule (Immediate n) v t h = tt
@@ -193,7 +194,7 @@ module _ (C : Certificate) (image : List ℕ) (gl : Global C image) (a : ℕ) (e
 
   -- a store to a writable register, with its effect on RAM
   pub store-written : (r : List ℕ) (w : Write) (x v : ℕ) → Registers r → Writable C a x → v < 256
-      → ((z : ℕ) → z < ramEnd → Effect C (changeOf C a w z) r (storeOf r x v) z) → Written C a w r (storeOf r x v)
+      → ((z : ℕ) → z < ramEnd → Effect (changeOf C a w z) r (storeOf r x v) z) → Written C a w r (storeOf r x v)
   store-written r w x v g wr hv h = record {
     registers = store-registers r x v g hv (λ q. not-writable x flagsCell wr (gl .flagsClass) (sym q));
     cells = h;
@@ -201,15 +202,15 @@ module _ (C : Certificate) (image : List ℕ) (gl : Global C image) (a : ℕ) (e
   }
 
   pub register-written : (r : List ℕ) (x : RegAddr) (n : NewValue) (v : ℕ) → Registers r → Writable C a (x .0) → v < 256
-      → Gives C a (Register x) n r v → Written C a (Write.Register x n) r (storeOf r (x .0) v)
+      → Gives (Register x) n r v → Written C a (Write.Register x n) r (storeOf r (x .0) v)
   register-written r x n v g wr hv h =
       store-written r (Write.Register x n) (x .0) v g wr hv (λ z l. go z l (eqb z (x .0)) refl)
     where
-      go : (z : ℕ) → z < ramEnd → (b : Bool) → eqb z (x .0) ≡ b → Effect C (pick b (changed n) unchanged) r (storeOf r (x .0) v) z
+      go : (z : ℕ) → z < ramEnd → (b : Bool) → eqb z (x .0) ≡ b → Effect (pick b (changed n) unchanged) r (storeOf r (x .0) v) z
       go z l true q =
           let s : z ≡ x .0 = eqb→eq z (x .0) (of-true (eqb z (x .0)) q) in
           let lx : x .0 < ramEnd = omega arith in
-          subst (λ (y : ℕ). Effect C (changed n) r (storeOf r (x .0) v) y) (sym s)
+          subst (λ (y : ℕ). Effect (changed n) r (storeOf r (x .0) v) y) (sym s)
           (h lx (storeOf r (x .0) v) (store-ram r (x .0) v lx (let y = g .size in omega arith)))
       go z l false q = store-other r (x .0) v z (λ s. subst T (sym (eqb-yes s) ∙ q) tt)
 
@@ -219,7 +220,7 @@ module _ (C : Certificate) (image : List ℕ) (gl : Global C image) (a : ℕ) (e
       store-written r (Write.Pointed p o) x v g wr hv (λ z l. go z (leb (low C a (p .0) + o) z && leb z (high C a (p .0) + o)) refl)
     where
       go : (z : ℕ) (b : Bool) → (leb (low C a (p .0) + o) z && leb z (high C a (p .0) + o)) ≡ b
-          → Effect C (pick b (changed Unknown) unchanged) r (storeOf r x v) z
+          → Effect (pick b (changed Unknown) unchanged) r (storeOf r x v) z
       go z true q = tt
       go z false q = store-other r x v z
           (λ s.
@@ -230,7 +231,7 @@ module _ (C : Certificate) (image : List ℕ) (gl : Global C image) (a : ℕ) (e
 
   -- v is stored at the place of d, of which the summary says n
   pub place-written : (r rec : List ℕ) → Registers r → Claims C a r → (d : Operand) (n : NewValue) (v : ℕ) → HasPlace d
-      → Allowed C a (writablePlace C a) d → v < 256 → Gives C a d n r v → Written C a (writeTo d n) r (storeOf r (placeOf r rec d .addr .0) v)
+      → Allowed C a (writablePlace C a) d → v < 256 → Gives d n r v → Written C a (writeTo d n) r (storeOf r (placeOf r rec d .addr .0) v)
   unfolding placeOf
   place-written r rec g c (Register x) n v s h hv k = register-written r x n v g (place-writable r rec c (Register x) s h) hv k
   place-written r rec g c (Indirect p o) n v s h hv k =
@@ -240,11 +241,11 @@ module _ (C : Certificate) (image : List ℕ) (gl : Global C image) (a : ℕ) (e
 
   -- after its write an instruction changes no RAM
   pub refines-beyond : (S : Summary) (r r′ r″ : List ℕ) → Written C a (S .write) r r′ → Registers r″ → ((x : ℕ) → x < ramEnd → at r″ x ≡ at r′ x)
-      → at r″ spCell ≡ spAfter C (S .stack) (at r spCell) → FlagsAfter C (S .flags) r r″
-      → interruptsEnabled r″ ≡ enabledAfter C (S .control) (interruptsEnabled r) → Refines C a S r r″
+      → at r″ spCell ≡ spAfter (S .stack) (at r spCell) → FlagsAfter (S .flags) r r″
+      → interruptsEnabled r″ ≡ enabledAfter (S .control) (interruptsEnabled r) → Refines C a S r r″
   refines-beyond S r r′ r″ w g k p f i = record {
     registers = g;
-    cells = λ x h c. effect-along C a (changeOf C a (S .write) x) r r′ r″ x (k x h) (w .cells x h);
+    cells = λ x h c. effect-along (changeOf C a (S .write) x) r r′ r″ x (k x h) (w .cells x h);
     stack = λ x h l u. let t = gl .stackTop in k x (omega arith) ∙ w .others x (gl .stackClass x l u);
     pointer = p;
     flags = f;
@@ -253,13 +254,13 @@ module _ (C : Certificate) (image : List ℕ) (gl : Global C image) (a : ℕ) (e
 
   -- after its write an instruction that keeps SP and the interrupt enable changes FLAGS at most
   pub refines-written : (S : Summary) (r r′ r″ : List ℕ) → S .stack ≡ Same → S .control ≡ Control.Nothing → Written C a (S .write) r r′ → Registers r″
-      → ((x : ℕ) → x ≢ flagsCell → at r″ x ≡ at r′ x) → FlagsAfter C (S .flags) r r″ → Refines C a S r r″
+      → ((x : ℕ) → x ≢ flagsCell → at r″ x ≡ at r′ x) → FlagsAfter (S .flags) r r″ → Refines C a S r r″
   refines-written S r r′ r″ hs hc w g k f =
       refines-beyond S r r′ r″ w g (λ x h. k x (omega arith)) (rw hs (k spCell (omega arith) ∙ w .others spCell (gl .spClass))) f
       (rw hc (enabled-same r r″ (k symCell (omega arith) ∙ w .others symCell (gl .symClass))))
 
   pub refines-flags : (S : Summary) (r r′ : List ℕ) (u : FlagUpdate) → S .stack ≡ Same → S .control ≡ Control.Nothing → Written C a (S .write) r r′
-      → FlagsAfter C (S .flags) r (withFlags r′ u) → Refines C a S r (withFlags r′ u)
+      → FlagsAfter (S .flags) r (withFlags r′ u) → Refines C a S r (withFlags r′ u)
   refines-flags S r r′ u hs hc w f =
       refines-written S r r′ (withFlags r′ u) hs hc w (flags-registers r′ u (w .registers)) (flags-other r′ u) f
 

@@ -8,13 +8,14 @@ use Prim.Native.Nat.{ℕ, _+_, _%_, _≤_, _<_}
 use native.Mathlib.Omega.{arith}
 use lib.ListN.{length, getD, set}
 use Rattle.base.specs.declared.RomAddr.{RomAddr}
+use Rattle.base.specs.Addresses.{flagsCell, spCell, symCell}
 use Rattle.base.specs.Lengths.{romLength}
 use Rattle.chip.specs.Registers.{mappedOf, loadOf, storeOf}
 use Rattle.chip.specs.Laws.{mapped-ram, store-other}
 use Rattle.action.specs.declared.Operand.{Operand}
 use Rattle.action.specs.declared.Operand.the-variants.{Register, Indirect, Immediate}
 use Rattle.action.specs.declared.Action.{Action}
-use Rattle.semantics.specs.Operands.{flagsCell, spCell, symCell, placeOf, fetchOf, lowered, raised, storeTop}
+use Rattle.semantics.specs.Operands.{placeOf, fetchOf, lowered, raised, storeTop}
 use Rattle.semantics.specs.Execute.{executeOf, pushOperand, popOperand}
 use Rattle.certificate.specs.declared.NewValue.the-variants.{Unknown}
 use Rattle.certificate.specs.declared.Access.{Access}
@@ -27,14 +28,15 @@ use Rattle.certificate.specs.Summaries.{summaryOf, moving, writeTo}
 use Rattle.safety.specs.Invariant.{at, Registers, Claims, Before, Does, Shaped, tableOf}
 use Rattle.safety.specs.Facts.{Global, EntryFacts}
 use Rattle.safety.specs.Memory.{Input, load-small, store-registers, sp-registers, sp-other, sp-same, enabled-same}
-use Rattle.safety.specs.RefineOperands.{HasPlace, Gives, Written, anyPlace, writablePlace, may-read, may-write, fetch-byte, fetch-mapped, place-mapped, place-written, in-read-table, in-write-table, refines-beyond, does-onward}
+use Rattle.safety.specs.RefineOperands.{HasPlace, Gives, Written, anyPlace, writablePlace, may-read, may-write, fetch-byte, fetch-mapped}
+use Rattle.safety.specs.RefineOperands.{place-mapped, place-written, in-read-table, in-write-table, refines-beyond, does-onward}
 use Rattle.safety.specs.StepRules.{StepRules}
 
 -- of a byte of which nothing is known
-gives-unknown : (C : Certificate) (a : ℕ) (d : Operand) (r : List ℕ) (v : ℕ) → Gives C a d Unknown r v
-gives-unknown C a (Register x) r v = λ l r′ q. tt
-gives-unknown C a (Indirect p o) r v = tt
-gives-unknown C a (Immediate n) r v = tt
+gives-unknown : (d : Operand) (r : List ℕ) (v : ℕ) → Gives d Unknown r v
+gives-unknown (Register x) r v = λ l r′ q. tt
+gives-unknown (Indirect p o) r v = tt
+gives-unknown (Immediate n) r v = tt
 
 -- the summary of POP to an operand that has a place
 abbrev popping : Operand → Summary
@@ -93,7 +95,7 @@ module _ (C : Certificate) (image : List ℕ) (gl : Global C image) (size : leng
       let x = placeOf r rec d .addr .0 in
       let r1 = storeOf r x v in
       let w : Written C a (writeTo d Unknown) r r1
-      = place-written C image gl a e r rec g (pre .claims) d Unknown v h may (load-small r rec g input (at r spCell)) (gives-unknown C a d r v) in
+      = place-written C image gl a e r rec g (pre .claims) d Unknown v h may (load-small r rec g input (at r spCell)) (gives-unknown d r v) in
       let sp = (at r1 spCell + 1) % 256 in
       let kept : at r1 spCell ≡ at r spCell = w .others spCell (gl .spClass) in
       does-onward C image gl a e (popping d) (Action.Pop d) r rec (set r1 spCell sp) next (placeOf r rec d .ok && mappedOf (at r spCell)) refl

@@ -5,8 +5,7 @@ use mathlib.Core.Bool.{Bool, true, false, not, _&&_, _||_}
 use mathlib.Core.List.{List, [], _∷_}
 use lib.ListN.{getD}
 use lib.Dec.{eqb, ltb, leb}
-use Rattle.base.specs.declared.RegAddr.{RegAddr}
-use Rattle.base.specs.declared.RomAddr.{RomAddr}
+use Rattle.base.specs.Addresses.{flagsCell, spCell, symCell}
 use Rattle.base.specs.Choice.{pick, choose}
 use Rattle.base.specs.Formula.{Formula, always, never, le, lt, eq, test, neg, _&_, _‖_, _⇒_, forallBelow}
 use Rattle.base.specs.Lengths.{romLength}
@@ -72,6 +71,23 @@ pub data Change : Type 0 where
   unchanged : Change
   changed : NewValue → Change
 
+-- Parts of the rules that need no certificate --
+
+-- rule 22, on a side: EI or IDLE on side 2
+abbrev pub controlAllowed : ℕ → Control → Formula
+controlAllowed side Control.Nothing = always
+controlAllowed side Enable = eq side 1
+controlAllowed side Disable = always
+controlAllowed side Wait = eq side 1
+
+-- rule 22, in routine n: undefined or cut off, JP/CALL through a register, LDE, writing LDC, STOP; RET outside 3 to 63, IRET outside 2
+abbrev pub flowAllowed : ℕ → Flow → Formula
+flowAllowed n (Step cc to) = always
+flowAllowed n (Call to) = always
+flowAllowed n Return = le 3 n & le n 63
+flowAllowed n InterruptReturn = eq n 2
+flowAllowed n Forbidden = never
+
 abbrev pub mapped : ℕ → Formula
 mapped x = test (mappedOf x)
 
@@ -80,12 +96,37 @@ directRead Access.Nothing = always
 directRead (Access.Register x) = mapped (x .0)
 directRead (Access.Pointed p o) = always
 
+-- rule 23: of the writes to D9H only `LD SP,#T` at depth 255 is excepted: its class excludes every side
+abbrev pub stackLoad : ℕ → ℕ → StackEffect → Formula
+stackLoad depth top Same = always
+stackLoad depth top Push = always
+stackLoad depth top Pop = always
+stackLoad depth top (Load n) = eq depth unloaded & eq n top
+
+-- SP is loaded at this depth
+abbrev pub loaded : ℕ → Formula
+loaded depth = neg (eq depth unloaded)
+
 -- depth as the instruction makes it
 abbrev pub depthAfter : StackEffect → ℕ → ℕ
 depthAfter Same d = d
 depthAfter Push d = d + 1
 depthAfter Pop d = d - 1
 depthAfter (Load n) d = 0
+
+-- rule 25: at depth 255 PUSH, POP; POP at 0; depth after PUSH above own need
+abbrev pub stackRule : ℕ → ℕ → StackEffect → Formula
+stackRule depth need Same = always
+stackRule depth need Push = loaded depth & le (depth + 1) need
+stackRule depth need Pop = loaded depth & lt 0 depth
+stackRule depth need (Load n) = always
+
+-- rule 25: at depth 255 EI
+abbrev pub enableRule : ℕ → Control → Formula
+enableRule depth Control.Nothing = always
+enableRule depth Enable = loaded depth
+enableRule depth Disable = always
+enableRule depth Wait = always
 
 -- a rule on each edge: behind the instruction unless the condition always holds, to the jump's target unless it never does
 abbrev pub edges : Flow → ℕ → (Edge → Formula) → Formula
@@ -155,7 +196,7 @@ module _ (C : Certificate) where
   unfoldable pub cellRule : ℕ → Formula
   cellRule x =
       le (C .class x) 3
-      & (inStack x ‖ eq x 0xD5 ‖ eq x 0xD9 ‖ eq x 0xDF ‖ neg (test (mappedOf x)) ⇒ eq (C .class x) 0 & eq (C .table x) 0)
+      & (inStack x ‖ eq x flagsCell ‖ eq x spCell ‖ eq x symCell ‖ neg (test (mappedOf x)) ⇒ eq (C .class x) 0 & eq (C .table x) 0)
 
   -- claimed and compared cells are RAM outside the stack, of the side's own class
   unfoldable pub claimable : ℕ → ℕ → Formula
@@ -236,62 +277,40 @@ module _ (C : Certificate) where
 
   -- Rule 22 --
 
-  -- EI or IDLE on side 2
-  abbrev pub controlAllowed : ℕ → Control → Formula
-  controlAllowed a Control.Nothing = always
-  controlAllowed a Enable = eq (sideAt a) 1
-  controlAllowed a Disable = always
-  controlAllowed a Wait = eq (sideAt a) 1
-
-  -- undefined or cut off, JP/CALL through a register, LDE, writing LDC, STOP; RET outside 3 to 63, IRET outside 2
-  abbrev pub flowAllowed : ℕ → Flow → Formula
-  flowAllowed a (Step cc to) = always
-  flowAllowed a (Call to) = always
-  flowAllowed a Return = le 3 (C .routine a) & le (C .routine a) 63
-  flowAllowed a InterruptReturn = eq (C .routine a) 2
-  flowAllowed a Forbidden = never
-
   unfoldable pub rule22 : ℕ → Summary → Formula
-  rule22 a S = controlAllowed a (S .control) & flowAllowed a (S .flow)
+  rule22 a S = controlAllowed (sideAt a) (S .control) & flowAllowed (C .routine a) (S .flow)
 
   -- Rule 21 --
 
-  -- each successor is an entry of the same routine
+  -- each successor is an entry of the same routine, n
   unfoldable pub successor : ℕ → ℕ → Formula
-  successor a t = lt t romLength & eq (C .routine t) (C .routine a)
+  successor n t = lt t romLength & eq (C .routine t) n
 
-  -- CALL goes to the start of a greater number on the same side
+  -- CALL in routine n goes to the start of a greater number on the same side
   unfoldable pub callTarget : ℕ → ℕ → Formula
-  callTarget a t =
-      lt t romLength & lt (C .routine a) (callee t) & eq (C .start (callee t)) t & eq (C .side (callee t)) (sideAt a)
+  callTarget n t = lt t romLength & lt n (callee t) & eq (C .start (callee t)) t & eq (C .side (callee t)) (C .side n)
 
   unfoldable pub rule21 : ℕ → Summary → ℕ → Formula
   rule21 a S next =
       rule22 a S
-      ⇒ edges (S .flow) next (λ e. successor a (e .to)) & calls (S .flow) (λ t. successor a next & callTarget a t)
+      ⇒ edges (S .flow) next (λ e. successor (C .routine a) (e .to))
+      & calls (S .flow) (λ t. successor (C .routine a) next & callTarget (C .routine a) t)
 
   -- Rule 23 --
 
-  -- the class includes the side, and the routine is not above the writer limit
+  -- routine n may write x: the class includes the side, and the routine is not above the writer limit
   unfoldable pub writable : ℕ → ℕ → Formula
-  writable a x = (eq (C .class x) (sideAt a) ‖ eq (C .class x) 3) & le (C .routine a) (C .limit x)
+  writable n x = (eq (C .class x) (C .side n) ‖ eq (C .class x) 3) & le n (C .limit x)
 
   abbrev pub directWrite : ℕ → Write → Formula
-  directWrite a Write.Nothing = always
-  directWrite a (Write.Register x v) = mapped (x .0) & writable a (x .0)
-  directWrite a (Write.Pointed p o) = always
-  directWrite a (Write.RegisterAndPair x p) =
-      mapped (x .0) & writable a (x .0) & mapped (p .0) & writable a (p .0) & mapped (p .0 + 1) & writable a (p .0 + 1)
-
-  -- of the writes to D9H only `LD SP,#T` at depth 255 is excepted: its class excludes every side
-  abbrev pub stackLoad : ℕ → StackEffect → Formula
-  stackLoad a Same = always
-  stackLoad a Push = always
-  stackLoad a Pop = always
-  stackLoad a (Load n) = eq (C .depth a) unloaded & eq n (C .top)
+  directWrite n Write.Nothing = always
+  directWrite n (Write.Register x v) = mapped (x .0) & writable n (x .0)
+  directWrite n (Write.Pointed p o) = always
+  directWrite n (Write.RegisterAndPair x p) =
+      mapped (x .0) & writable n (x .0) & mapped (p .0) & writable n (p .0) & mapped (p .0 + 1) & writable n (p .0 + 1)
 
   unfoldable pub rule23 : ℕ → Summary → Formula
-  rule23 a S = directRead (S .first) & directRead (S .second) & directWrite a (S .write) & stackLoad a (S .stack)
+  rule23 a S = directRead (S .first) & directRead (S .second) & directWrite (C .routine a) (S .write) & stackLoad (C .depth a) (C .top) (S .stack)
 
   -- Rule 24 --
 
@@ -311,7 +330,7 @@ module _ (C : Certificate) where
   abbrev pub pointedWrite : ℕ → Write → Formula
   pointedWrite a Write.Nothing = always
   pointedWrite a (Write.Register x v) = always
-  pointedWrite a (Write.Pointed p o) = reach a (p .0) o (λ x. mapped x & writable a x)
+  pointedWrite a (Write.Pointed p o) = reach a (p .0) o (λ x. mapped x & writable (C .routine a) x)
   pointedWrite a (Write.RegisterAndPair x p) = always
 
   -- a direct LDC address outside ROM; the high cell's claim, low half 0 to 255, with the offset unwrapped
@@ -326,27 +345,9 @@ module _ (C : Certificate) where
 
   -- Rule 25 --
 
-  abbrev pub loaded : ℕ → Formula
-  loaded a = neg (eq (C .depth a) unloaded)
-
-  -- at depth 255 PUSH, POP; POP at 0; depth after PUSH above own need
-  abbrev pub stackRule : ℕ → StackEffect → Formula
-  stackRule a Same = always
-  stackRule a Push = loaded a & le (C .depth a + 1) (C .need (C .routine a))
-  stackRule a Pop = loaded a & lt 0 (C .depth a)
-  stackRule a (Load n) = always
-
-  -- at depth 255 EI
-  abbrev pub enableRule : ℕ → Control → Formula
-  enableRule a Control.Nothing = always
-  enableRule a Enable = loaded a
-  enableRule a Disable = always
-  enableRule a Wait = always
-
   -- at CALL, depth 255, and depth + 2 + callee's need above own need
-  unfoldable pub callDepth : ℕ → ℕ → ℕ → Formula
-  callDepth a next t =
-      loaded a & eq (C .depth next) (C .depth a) & le (C .depth a + 2 + C .need (callee t)) (C .need (C .routine a))
+  unfoldable pub callDepth : ℕ → ℕ → ℕ → ℕ → Formula
+  callDepth depth need next t = loaded depth & eq (C .depth next) depth & le (depth + 2 + C .need (callee t)) need
 
   -- at 0100H, need(1) + 3 + need(2) above T - F
   abbrev pub stackFits : ℕ → Formula
@@ -354,10 +355,10 @@ module _ (C : Certificate) where
 
   unfoldable pub rule25 : ℕ → Summary → ℕ → Formula
   rule25 a S next =
-      stackRule a (S .stack)
-      & enableRule a (S .control)
+      stackRule (C .depth a) (C .need (C .routine a)) (S .stack)
+      & enableRule (C .depth a) (S .control)
       & edges (S .flow) next (λ e. eq (C .depth (e .to)) (depthAfter (S .stack) (C .depth a)))
-      & calls (S .flow) (callDepth a next)
+      & calls (S .flow) (callDepth (C .depth a) (C .need (C .routine a)) next)
       & ends (S .flow) (eq (C .depth a) 0)
       & stackFits a
 

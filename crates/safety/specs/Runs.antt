@@ -1,22 +1,19 @@
 -- A walk whose every step is right is the machine's run: it does every record and does not stop.
 -- Assumes nothing.
-use mathlib.Core.Path.{_≡_, refl, sym, _∙_, ap}
-use mathlib.Core.Bool.{Bool, true, false}
+use mathlib.Core.Path.{_≡_, refl}
 use mathlib.Core.List.{List, [], _∷_}
-use Prim.Native.Nat.{ℕ, zero, suc, _+_, _-_, _*_, _/_, _%_, _≤_, _<_}
+use Prim.Native.Nat.{ℕ, zero, suc, _+_, _-_, _*_, _/_, _<_}
 use native.Mathlib.Omega.{arith}
-use lib.Dec.{eqb}
 use lib.ListN.{length, getD, take, drop, length-take, length-drop}
 use lib.Seq.{getD-drop}
-use Rattle.base.specs.Choice.{pick}
 use Rattle.base.specs.Formula.{eqb-yes}
 use Rattle.base.specs.Lengths.{recordLength}
 use Rattle.semantics.specs.declared.State.{State}
 use Rattle.semantics.specs.declared.Ran.{Ran}
 use Rattle.semantics.specs.Step.{stepOf}
-use Rattle.semantics.specs.Run.{ran, recordAt, runFrom, runOf}
+use Rattle.semantics.specs.Run.{recordAt, runFrom}
 use Rattle.certificate.specs.Layout.{Certificate}
-use Rattle.safety.specs.Statement.{Event, Monitored, actedState, afterStep, monitorStep, eventOf, StepRight, Walk}
+use Rattle.safety.specs.Statement.{Event, Monitored, actedState, afterStep, monitorStep, eventOf, Walk}
 
 -- a part of bytes holds bytes
 pub take-bytes : (n : ℕ) (l : List ℕ) → ((i : ℕ) → getD l i 0 < 256) → (i : ℕ) → getD (take n l) i 0 < 256
@@ -32,6 +29,10 @@ record-bytes schedule h k i =
 pub record-length : (schedule : List ℕ) (k : ℕ) → k < length schedule / recordLength → length (recordAt schedule k) ≡ recordLength
 record-length schedule k h = simp (length-take, length-drop) (omega arith)
 
+-- steps and number of a run
+abbrev Done : Ran → ℕ → Type 0
+Done r n = (r .steps ≡ n) × (r .stop ≡ 0)
+
 module _ (C : Certificate) (image : List ℕ) where
   -- the monitored machine is the machine
   after-state : (n : ℕ) (e : Event) (m : Monitored) (a s′ : State) → n ≡ 0 → afterStep C image n e m a s′ .state ≡ s′
@@ -41,15 +42,7 @@ module _ (C : Certificate) (image : List ℕ) where
   pub step-state : (m : Monitored) (rec : List ℕ) → stepOf image (m .state) rec .stop ≡ 0 → monitorStep C image m rec .state ≡ stepOf image (m .state) rec .state
   unfolding monitorStep
   step-state m rec h =
-      after-state (stepOf image (m .state) rec .stop) (eventOf image (m .state) rec) m (actedState C image m rec) (stepOf image (m .state) rec .state) h
-
-  -- steps and number of a run
-  abbrev Done : Ran → ℕ → Type 0
-  Done r n = (r .steps ≡ n) × (r .stop ≡ 0)
-
-  chosen : (b : Bool) (x y : Ran) (n : ℕ) → b ≡ true → Done x n → Done (elim b as (λ t. Ran) [ true ↦ x | false ↦ y ]) n
-  chosen true x y n h d = d
-  chosen false x y n h d = absurd (mathlib.Core.Path.subst lib.Dec.T (sym h) tt)
+      after-state (stepOf image (m .state) rec .stop) (eventOf image (m .state) rec) m (actedState image m rec) (stepOf image (m .state) rec .state) h
 
   pub walk-run : (k : ℕ) (tables : ℕ → ℕ) (schedule : List ℕ) (i : ℕ) (m : Monitored) → Walk C image k tables schedule i m
       → Done (runFrom k image schedule i (m .state)) (i + k)
@@ -60,6 +53,4 @@ module _ (C : Certificate) (image : List ℕ) where
       let g = w .0 .goes in
       let next = walk-run k tables schedule (i + 1) (monitorStep C image m rec) (w .1) in
       let e : i + 1 + k ≡ i + suc k = omega arith in
-      chosen (eqb (stepOf image (m .state) rec .stop) 0)
-      (runFrom k image schedule (i + 1) (stepOf image (m .state) rec .state)) (ran (stepOf image (m .state) rec .state) i (stepOf image (m .state) rec .stop))
-      (i + suc k) (eqb-yes g) (rw (← e, ← (step-state m rec g)) next)
+      rw (eqb-yes g, runFrom) (rw (← e, ← (step-state m rec g)) next)

@@ -1,19 +1,17 @@
 -- The theorem: every run from reset of an accepted image is as demand 3 says.
 -- Assumes nothing.
 use mathlib.Core.Path.{_≡_, refl, sym, subst, _∙_, ap}
-use mathlib.Core.Logic.{_≢_}
 use mathlib.Core.Bool.{Bool, true, false, _||_, _&&_}
 use mathlib.Core.List.{List, [], _∷_}
-use Prim.Native.Nat.{ℕ, zero, suc, _+_, _*_, _/_, _≤_, _<_}
+use Prim.Native.Nat.{ℕ, zero, suc, _+_, _/_, _≤_, _<_}
 use native.Mathlib.Omega.{arith}
-use lib.Dec.{T, eqb}
+use lib.Dec.{T}
 use lib.ListN.{length, getD}
 use Rattle.base.specs.declared.RomAddr.{RomAddr}
-use Rattle.base.specs.Addresses.{romAddr}
-use Rattle.base.specs.Choice.{pick}
-use Rattle.base.specs.Formula.{Holds, eqb-yes}
+use Rattle.base.specs.Addresses.{spCell, symCell}
+use Rattle.base.specs.Formula.{eqb-yes}
 use Rattle.base.specs.Outcome.{Outcome}
-use Rattle.base.specs.Outcome.Outcome.{value, refused}
+use Rattle.base.specs.Outcome.Outcome.{value}
 use Rattle.base.specs.Lengths.{romLength, recordLength}
 use Rattle.isa.specs.declared.Instruction.{Instruction}
 use Rattle.isa.specs.Map.{cyclesOf}
@@ -21,30 +19,30 @@ use Rattle.chip.specs.Interrupts.{interruptsEnabled, pendingAny, pendingEdge}
 use Rattle.chip.specs.Reset.{resetRegisters}
 use Rattle.chip.specs.ResetLaws.{reset-enabled}
 use Rattle.decode.specs.Decode.{decodeAt}
-use Rattle.action.specs.declared.Action.{Action}
 use Rattle.action.specs.Action.{actionOf}
 use Rattle.semantics.specs.declared.Mode.{Mode}
 use Rattle.semantics.specs.declared.Mode.the-variants.{Running, Idle, Stopped}
 use Rattle.semantics.specs.declared.State.{State}
 use Rattle.semantics.specs.declared.Stepped.{Stepped}
-use Rattle.semantics.specs.Operands.{spCell, symCell, spOf}
+use Rattle.semantics.specs.Operands.{spOf}
 use Rattle.semantics.specs.Execute.{Executed, executeOf}
-use Rattle.semantics.specs.Step.{Acted, requested, entryDue, entryCost, vectorOf, behind, movedTo, idleCycles, finishOf, enterOf, afterDecode, instructionAct, waitingAct, modeAct, actAfterRequests, actedOf, settled, stepOf}
+use Rattle.semantics.specs.Step.{Acted, requested, entryDue, entryCost, behind, movedTo, idleCycles, finishOf, enterOf}
+use Rattle.semantics.specs.Step.{afterDecode, instructionAct, waitingAct, modeAct, actAfterRequests, actedOf, settled, stepOf}
 use Rattle.semantics.specs.Run.{recordAt, runOf}
 use Rattle.semantics.specs.Reset.{IsReset}
 use Rattle.certificate.specs.Layout.{Certificate}
-use Rattle.certificate.specs.Summaries.{summaryOf}
 use Rattle.safety.specs.Verdicts.{summaryAt, costAt}
-use Rattle.safety.specs.Statement.{Frame, Open, Event, entered, waited, executed, decodedEvent, modeEvent, dueEvent, eventOf, Monitored, spent, moved, loadedBy, loadsTop, actedState, afterStep, monitorStep, EventRight, InstructionRight, Within, StepRight, Walk, Schedule, RunRight, fromReset, Demand3, opening, byReset, byInterrupt}
+use Rattle.safety.specs.Statement.{Frame, Event, entered, waited, executed, decodedEvent, modeEvent, dueEvent, eventOf, Monitored, spent, loadedBy, loadsTop}
+use Rattle.safety.specs.Statement.{actedState, afterStep, monitorStep, EventRight, Within, StepRight, Walk, Schedule, RunRight, fromReset, Demand3, byReset}
 use Rattle.safety.specs.Invariant.{at, Registers, Awake, Invariant, tableOf}
 use Rattle.safety.specs.Accepted.{Accepts}
 use Rattle.safety.specs.Facts.{Global, global}
 use Rattle.safety.specs.Memory.{Input, enabled-same}
 use Rattle.safety.specs.DecodedShape.{decoded-shaped}
 use Rattle.safety.specs.Edge.{CertificateFacts, in-range}
-use Rattle.safety.specs.Plain.{RulesOf, inv-request}
+use Rattle.safety.specs.Plain.{inv-request}
 use Rattle.safety.specs.Bounds.{within-of, stack-of}
-use Rattle.safety.specs.Runs.{record-bytes, record-length, step-state, walk-run}
+use Rattle.safety.specs.Runs.{record-bytes, record-length, walk-run}
 use Rattle.safety.specs.Interrupts.{serviceFrame, inv-enter}
 use Rattle.safety.specs.Instruction.{rules-decoded, table-decoded, decoded-at, Right, right}
 
@@ -77,8 +75,8 @@ module _ (C : Certificate) (image : List ℕ) (ok : Accepts C image) (facts : Ce
   record Good (m : Monitored) (rec : List ℕ) (x : Acted) (e : Event) : Type 0 where
     goes : x .stop ≡ 0
     event : EventRight C image tables m rec e (x .state .pc .0)
-    stack : loadedBy C image e (m .loaded) ≡ true → (C .floor ≤ spOf (x .state .regs)) × (spOf (x .state .regs) ≤ C .top)
-    within : Within C image (spent C image e (m .state) (m .frames) .inner ∷ spent C image e (m .state) (m .frames) .outer)
+    stack : loadedBy C e (m .loaded) ≡ true → (C .floor ≤ spOf (x .state .regs)) × (spOf (x .state .regs) ≤ C .top)
+    within : Within C (spent image e (m .state) (m .frames) .inner ∷ spent image e (m .state) (m .frames) .outer)
     kept : Kept (afterStep C image 0 e m (x .state) (x .state))
 
   -- a step that is the event e, acts as a and settles in x
@@ -102,7 +100,7 @@ module _ (C : Certificate) (image : List ℕ) (ok : Accepts C image) (facts : Ce
 
   loaded-stack : (b : Bool) (r : List ℕ) (pc : ℕ) (f : Frame) (fs : List Frame) → Invariant C b r pc f fs → b ≡ true
       → (C .floor ≤ at r spCell) × (at r spCell ≤ C .top)
-  loaded-stack true r pc f fs v h = stack-of C image whole r pc f fs v
+  loaded-stack true r pc f fs v h = stack-of C r pc f fs v
   loaded-stack false r pc f fs v h = absurd (subst T (sym h) tt)
 
   module _ (m : Monitored) (rec : List ℕ) (k : Kept m) (input : Input rec) where
@@ -118,13 +116,13 @@ module _ (C : Certificate) (image : List ℕ) (ok : Accepts C image) (facts : Ce
           goes = refl;
           event = tt;
           stack = loaded-stack (m .loaded) (requested (m .state) rec) (m .state .pc .0) (m .frames .inner) (m .frames .outer) v;
-          within = within-of C image whole (m .loaded) (requested (m .state) rec) (m .state .pc .0) (m .frames .inner) (m .frames .outer) v;
+          within = within-of C (m .loaded) (requested (m .state) rec) (m .state .pc .0) (m .frames .inner) (m .frames .outer) v;
           kept = record { invariant = v; awake = k .awake };
         }
 
     -- an instruction that is right
     good-right : (d : Instruction × ℕ) → decodeAt image (m .state .pc .0) ≡ value d
-        → Right C image ok facts size bytes (m .loaded) (m .state .pc .0) (actionOf (d .0) (behind (m .state .pc) (d .1))) (requested (m .state) rec) rec
+        → Right C image (m .loaded) (m .state .pc .0) (actionOf (d .0) (behind (m .state .pc) (d .1))) (requested (m .state) rec) rec
         (behind (m .state .pc) (d .1)) (costAt image (m .state .pc .0)) (m .frames)
         (executeOf (actionOf (d .0) (behind (m .state .pc) (d .1))) image (requested (m .state) rec) rec (behind (m .state .pc) (d .1)))
         → Good m rec (afterDecode (value d) image (m .state) (requested (m .state) rec) rec) (decodedEvent (value d) (m .state .pc))
@@ -165,10 +163,10 @@ module _ (C : Certificate) (image : List ℕ) (ok : Accepts C image) (facts : Ce
     stack = record { unloaded = whole .mainDepth; main = refl; reset = refl; alone = refl };
   }
 
-  reset-kept : (s : State) → IsReset s → Kept (fromReset C image s)
+  reset-kept : (s : State) → IsReset s → Kept (fromReset s)
   reset-kept s h =
       let g : Registers (s .regs) = record { size = h .size; bytes = h .bytes; flags = h .flags } in
-      let e : at (s .regs) symCell ≡ at resetRegisters symCell = h .control symCell (omega arith) (omega arith) (omega arith) (omega arith) in
+      let e : at (s .regs) symCell ≡ at resetRegisters symCell = h .control symCell (omega arith) (omega arith) (omega arith) (omega arith) (omega arith) (omega arith) in
       let off : interruptsEnabled (s .regs) ≡ false = enabled-same resetRegisters (s .regs) e ∙ reset-enabled in
       let q : s .pc .0 ≡ 0x100 = ap (λ (p : RomAddr). p .0) (h .counter) in
       record {
@@ -178,7 +176,7 @@ module _ (C : Certificate) (image : List ℕ) (ok : Accepts C image) (facts : Ce
 
   -- the instruction at the program counter
   instruction-right : (m : Monitored) (rec : List ℕ) → Kept m → Input rec → (d : Instruction × ℕ) → decodeAt image (m .state .pc .0) ≡ value d
-      → Right C image ok facts size bytes (m .loaded) (m .state .pc .0) (actionOf (d .0) (behind (m .state .pc) (d .1))) (requested (m .state) rec) rec
+      → Right C image (m .loaded) (m .state .pc .0) (actionOf (d .0) (behind (m .state .pc) (d .1))) (requested (m .state) rec) rec
       (behind (m .state .pc) (d .1)) (costAt image (m .state .pc .0)) (m .frames)
       (executeOf (actionOf (d .0) (behind (m .state .pc) (d .1))) image (requested (m .state) rec) rec (behind (m .state .pc) (d .1)))
   instruction-right m rec k input d q =
@@ -195,14 +193,14 @@ module _ (C : Certificate) (image : List ℕ) (ok : Accepts C image) (facts : Ce
   good-entered m rec k input on =
       let e = enterOf image (requested (m .state) rec) (m .state .pc) in
       let w = inv-enter C image whole facts (m .loaded) (requested (m .state) rec) (m .state .pc) (m .frames .inner) (m .frames .outer) (requested-kept m rec k input) on in
-      let i : Invariant C (m .loaded) (e .regs) (e .next .pc .0) (serviceFrame C image whole facts (m .state .pc .0)) (m .frames .inner ∷ m .frames .outer)
-      = subst (λ (n : ℕ). Invariant C (m .loaded) (e .regs) n (serviceFrame C image whole facts (m .state .pc .0)) (m .frames .inner ∷ m .frames .outer)) (sym (w .counter)) (w .invariant) in
+      let i : Invariant C (m .loaded) (e .regs) (e .next .pc .0) (serviceFrame (m .state .pc .0)) (m .frames .inner ∷ m .frames .outer)
+      = subst (λ (n : ℕ). Invariant C (m .loaded) (e .regs) n (serviceFrame (m .state .pc .0)) (m .frames .inner ∷ m .frames .outer)) (sym (w .counter)) (w .invariant) in
       subst (λ (x : Acted). Good m rec x entered) (finish-is (m .state) e false entryCost (w .goes))
       (record {
         goes = refl;
         event = tt;
         stack = loaded-stack (m .loaded) (e .regs) (e .next .pc .0) _ _ i;
-        within = within-of C image whole (m .loaded) (e .regs) (e .next .pc .0) _ _ i;
+        within = within-of C (m .loaded) (e .regs) (e .next .pc .0) _ _ i;
         kept = record { invariant = i; awake = w .mode };
       })
 
@@ -245,7 +243,7 @@ module _ (C : Certificate) (image : List ℕ) (ok : Accepts C image) (facts : Ce
     unfolding monitorStep
     step-kept h =
         let g = good-step h in
-        subst (λ (n : ℕ). Kept (afterStep C image n (eventOf image (m .state) rec) m (actedState C image m rec) (stepOf image (m .state) rec .state)))
+        subst (λ (n : ℕ). Kept (afterStep C image n (eventOf image (m .state) rec) m (actedState image m rec) (stepOf image (m .state) rec .state)))
         (sym (g .goes)) (g .kept)
 
   walk : (k : ℕ) (schedule : List ℕ) → ((i : ℕ) → getD schedule i 0 < 256) → (i : ℕ) → k + i ≤ length schedule / recordLength → (m : Monitored)
@@ -257,12 +255,12 @@ module _ (C : Certificate) (image : List ℕ) (ok : Accepts C image) (facts : Ce
       let l = record-length schedule i (omega arith) in
       (step-right m rec p input l, walk k schedule b (i + 1) (omega arith) (monitorStep C image m rec) (step-kept m rec p input l))
 
-  run-right : (s : State) → IsReset s → (schedule : List ℕ) → Schedule C image schedule → RunRight C image tables s schedule
+  run-right : (s : State) → IsReset s → (schedule : List ℕ) → Schedule schedule → RunRight C image tables s schedule
   unfolding runOf
   run-right s h schedule sc =
       let n = length schedule / recordLength in
-      let w : Walk C image n tables schedule 0 (fromReset C image s) = walk n schedule (sc .bytes) 0 (omega arith) (fromReset C image s) (reset-kept s h) in
-      let d = walk-run C image n tables schedule 0 (fromReset C image s) w in
+      let w : Walk C image n tables schedule 0 (fromReset s) = walk n schedule (sc .bytes) 0 (omega arith) (fromReset s) (reset-kept s h) in
+      let d = walk-run C image n tables schedule 0 (fromReset s) w in
       let z : 0 + n ≡ n = omega arith in
       record { steps = rw (size, sc .whole) (d .0 ∙ z); stop = rw (size, sc .whole) (d .1); walk = w }
 

@@ -9,6 +9,7 @@ use Prim.Native.Nat.{ℕ, zero, suc, _+_, _/_, _%_, _≤_, _<_}
 use lib.Dec.{eqb}
 use lib.ListN.{length, getD}
 use Rattle.base.specs.declared.RomAddr.{RomAddr}
+use Rattle.base.specs.Addresses.{spCell}
 use Rattle.base.specs.Outcome.{Outcome}
 use Rattle.base.specs.Outcome.Outcome.{value, refused}
 use Rattle.base.specs.Lengths.{recordLength}
@@ -22,10 +23,10 @@ use Rattle.action.specs.Action.{actionOf}
 use Rattle.semantics.specs.declared.Mode.{Mode}
 use Rattle.semantics.specs.declared.Mode.the-variants.{Running, Idle, Stopped}
 use Rattle.semantics.specs.declared.State.{State}
-use Rattle.semantics.specs.Operands.{placeOf, lowered, wordAt, spOf, spCell}
+use Rattle.semantics.specs.Operands.{placeOf, lowered, wordAt, spOf}
 use Rattle.semantics.specs.Execute.{codeAddress}
 use Rattle.semantics.specs.Step.{requested, entryDue, entryCost, behind, actedOf, stepOf}
-use Rattle.semantics.specs.Run.{ran, recordAt, runOf}
+use Rattle.semantics.specs.Run.{recordAt, runOf}
 use Rattle.semantics.specs.Reset.{IsReset}
 use Rattle.certificate.specs.Layout.{Certificate}
 
@@ -158,7 +159,17 @@ pub record Monitored : Type 0 where
   pub frames : Open
   pub loaded : Bool
 
-module _ (C : Certificate) (image : List ℕ) where
+-- at reset main alone is open, with 0 cycles
+abbrev pub fromReset : State → Monitored
+fromReset s =
+    record { state = s; frames = record { inner = record { routine = 1; returnTo = 0; cycles = 0; opener = byReset }; outer = [] }; loaded = false }
+
+-- a schedule: whole records of bytes
+pub record Schedule (schedule : List ℕ) : Type 0 where
+  pub whole : length schedule % recordLength ≡ 0
+  pub bytes : (i : ℕ) → getD schedule i 0 < 256
+
+module _ (image : List ℕ) where
   -- the cycles of the instruction at the program counter
   abbrev pub costHere : State → ℕ
   costHere s = cyclesOf (getD image (s .pc .0) 0)
@@ -169,6 +180,11 @@ module _ (C : Certificate) (image : List ℕ) where
   spent waited s o = o
   spent (executed act next) s o = charge (costHere s) o
 
+  -- the state behind the act of a step, before it settles: where the step goes, whom CALL opens and SP are read there
+  abbrev pub actedState : Monitored → List ℕ → State
+  actedState m rec = actedOf image (m .state) rec .state
+
+module _ (C : Certificate) where
   -- CALL opens the routine that its target's entry names, with the address behind CALL and 0 cycles; RET or IRET closes the innermost
   abbrev pub transferred : Transfer → RomAddr → State → Open → Open
   transferred stays next s′ o = o
@@ -186,36 +202,46 @@ module _ (C : Certificate) (image : List ℕ) where
   loadedBy waited b = b
   loadedBy (executed act next) b = loadsTop (C .top) act || b
 
-  -- the state behind the act of a step, before it settles: where the step goes, whom CALL opens and SP are read there
-  abbrev pub actedState : Monitored → List ℕ → State
-  actedState m rec = actedOf image (m .state) rec .state
-
+module _ (C : Certificate) (image : List ℕ) where
   -- a step that is not stopped, with its act to a, and settled in s′; a stopped step leaves all as it was
   abbrev pub afterStep : ℕ → Event → Monitored → State → State → Monitored
   afterStep zero e m a s′ =
-      record { state = s′; frames = moved e a (spent e (m .state) (m .frames)); loaded = loadedBy e (m .loaded) }
+      record { state = s′; frames = moved C e a (spent image e (m .state) (m .frames)); loaded = loadedBy C e (m .loaded) }
   afterStep (suc n) e m a s′ = m
 
   unfoldable pub monitorStep : Monitored → List ℕ → Monitored
   monitorStep m rec =
-      afterStep (stepOf image (m .state) rec .stop) (eventOf image (m .state) rec) m (actedState m rec) (stepOf image (m .state) rec .state)
+      afterStep (stepOf image (m .state) rec .stop) (eventOf image (m .state) rec) m (actedState image m rec) (stepOf image (m .state) rec .state)
 
-  -- What each step must show --
+-- What each step must show --
 
-  -- the address that an operand's pointer gives lies in the table of the instruction's address
-  abbrev pub InTable : ℕ → List ℕ → List ℕ → Operand → Type 0
-  InTable t regs rec (Register a) = Unit {0}
-  InTable t regs rec (Indirect p x) = (C .table (placeOf regs rec (Indirect p x) .addr .0) ≡ t) × (t ≢ 0)
-  InTable t regs rec (Immediate n) = Unit {0}
+-- the address that an operand's pointer gives lies in the table of the instruction's address
+abbrev pub InTable : Certificate → ℕ → List ℕ → List ℕ → Operand → Type 0
+InTable C t regs rec (Register a) = Unit {0}
+InTable C t regs rec (Indirect p x) = (C .table (placeOf regs rec (Indirect p x) .addr .0) ≡ t) × (t ≢ 0)
+InTable C t regs rec (Immediate n) = Unit {0}
 
+-- behind RET the program counter is the closed routine's return address, and a call opened it; behind IRET likewise, and an interrupt did
+abbrev pub ReturnsRight : Transfer → Frame → ℕ → Type 0
+ReturnsRight stays f pc′ = Unit {0}
+ReturnsRight calls f pc′ = Unit {0}
+ReturnsRight returns f pc′ = (pc′ ≡ f .returnTo) × (f .opener ≡ byCall)
+ReturnsRight returnsFromInterrupt f pc′ = (pc′ ≡ f .returnTo) × (f .opener ≡ byInterrupt)
+
+-- no routine but main spends more cycles than its row's bound
+abbrev pub Within : Certificate → List Frame → Type 0
+Within C [] = Unit {0}
+Within C (f ∷ fs) = (f .routine ≢ 1 → f .cycles ≤ C .bound (f .routine)) × Within C fs
+
+module _ (C : Certificate) (image : List ℕ) where
   -- every pointer of the instruction, on the registers after the requests (PUSH reads its pointer after lowering SP); LDC's address is in ROM;
   -- computed jumps and calls never run
   abbrev pub PointersRight : ℕ → List ℕ → List ℕ → Action → Type 0
-  PointersRight t regs rec (Action.Binary op d s) = InTable t regs rec d × InTable t regs rec s
-  PointersRight t regs rec (Action.Modify op d) = InTable t regs rec d
-  PointersRight t regs rec (Action.Load d s) = InTable t regs rec d × InTable t regs rec s
-  PointersRight t regs rec (Action.Push s) = InTable t (lowered regs) rec s
-  PointersRight t regs rec (Action.Pop d) = InTable t regs rec d
+  PointersRight t regs rec (Action.Binary op d s) = InTable C t regs rec d × InTable C t regs rec s
+  PointersRight t regs rec (Action.Modify op d) = InTable C t regs rec d
+  PointersRight t regs rec (Action.Load d s) = InTable C t regs rec d × InTable C t regs rec s
+  PointersRight t regs rec (Action.Push s) = InTable C t (lowered regs) rec s
+  PointersRight t regs rec (Action.Pop d) = InTable C t regs rec d
   PointersRight t regs rec (Action.LoadCode d c) = codeAddress c regs rec < length image
   PointersRight t regs rec (Action.LoadCodeStep d p up) = wordAt regs rec (p .0) < length image
   PointersRight t regs rec Action.External = ⊥
@@ -231,13 +257,6 @@ module _ (C : Certificate) (image : List ℕ) where
   PointersRight t regs rec Action.Stop = Unit {0}
   PointersRight t regs rec Action.Nop = Unit {0}
 
-  -- behind RET the program counter is the closed routine's return address, and a call opened it; behind IRET likewise, and an interrupt did
-  abbrev pub ReturnsRight : Transfer → Frame → ℕ → Type 0
-  ReturnsRight stays f pc′ = Unit {0}
-  ReturnsRight calls f pc′ = Unit {0}
-  ReturnsRight returns f pc′ = (pc′ ≡ f .returnTo) × (f .opener ≡ byCall)
-  ReturnsRight returnsFromInterrupt f pc′ = (pc′ ≡ f .returnTo) × (f .opener ≡ byInterrupt)
-
   -- an instruction begins at an address whose certificate entry (routine 0 is none) names the innermost open routine
   pub record InstructionRight (t : ℕ) (m : Monitored) (rec : List ℕ) (act : Action) (pc′ : ℕ) : Type 0 where
     pub named : 1 ≤ C .routine (m .state .pc .0)
@@ -250,36 +269,21 @@ module _ (C : Certificate) (image : List ℕ) where
   EventRight tables m rec waited pc′ = Unit {0}
   EventRight tables m rec (executed act next) pc′ = InstructionRight (tables (m .state .pc .0)) m rec act pc′
 
-  -- no routine but main spends more cycles than its row's bound
-  abbrev pub Within : List Frame → Type 0
-  Within [] = Unit {0}
-  Within (f ∷ fs) = (f .routine ≢ 1 → f .cycles ≤ C .bound (f .routine)) × Within fs
-
   -- one step: it does not stop; its event is right; SP, once loaded, lies between floor and top; cycles are within bounds
   pub record StepRight (tables : ℕ → ℕ) (m : Monitored) (rec : List ℕ) : Type 0 where
     pub goes : stepOf image (m .state) rec .stop ≡ 0
-    pub event : EventRight tables m rec (eventOf image (m .state) rec) (actedState m rec .pc .0)
+    pub event : EventRight tables m rec (eventOf image (m .state) rec) (actedState image m rec .pc .0)
     pub stack :
-        loadedBy (eventOf image (m .state) rec) (m .loaded) ≡ true
-        → (C .floor ≤ spOf (actedState m rec .regs)) × (spOf (actedState m rec .regs) ≤ C .top)
+        loadedBy C (eventOf image (m .state) rec) (m .loaded) ≡ true
+        → (C .floor ≤ spOf (actedState image m rec .regs)) × (spOf (actedState image m rec .regs) ≤ C .top)
     pub within :
-        Within (spent (eventOf image (m .state) rec) (m .state) (m .frames) .inner ∷ spent (eventOf image (m .state) rec) (m .state) (m .frames) .outer)
+        Within C (spent image (eventOf image (m .state) rec) (m .state) (m .frames) .inner ∷ spent image (eventOf image (m .state) rec) (m .state) (m .frames) .outer)
 
   -- the next k records from record i on
   abbrev pub Walk : ℕ → (ℕ → ℕ) → List ℕ → ℕ → Monitored → Type 0
   Walk zero tables schedule i m = Unit {0}
   Walk (suc k) tables schedule i m =
-      StepRight tables m (recordAt schedule i) × Walk k tables schedule (i + 1) (monitorStep m (recordAt schedule i))
-
-  -- at reset main alone is open, with 0 cycles
-  abbrev pub fromReset : State → Monitored
-  fromReset s =
-      record { state = s; frames = record { inner = record { routine = 1; returnTo = 0; cycles = 0; opener = byReset }; outer = [] }; loaded = false }
-
-  -- a schedule: whole records of bytes
-  pub record Schedule (schedule : List ℕ) : Type 0 where
-    pub whole : length schedule % recordLength ≡ 0
-    pub bytes : (i : ℕ) → getD schedule i 0 < 256
+      StepRight tables m (recordAt schedule i) × Walk k tables schedule (i + 1) (monitorStep C image m (recordAt schedule i))
 
   -- the run does every record and no step stops, and every step is right
   pub record RunRight (tables : ℕ → ℕ) (s : State) (schedule : List ℕ) : Type 0 where

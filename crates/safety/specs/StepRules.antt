@@ -9,5 +9,5 @@ use Rattle.safety.specs.Rules.{rule23, rule24, stackRule, enableRule}
 pub record StepRules (C : Certificate) (a : ℕ) (S : Summary) : Type 0 where
   pub r23 : Holds (rule23 C a S)
   pub r24 : Holds (rule24 C a S)
-  pub stack : Holds (stackRule C a (S .stack))
-  pub enable : Holds (enableRule C a (S .control))
+  pub stack : Holds (stackRule (C .depth a) (C .need (C .routine a)) (S .stack))
+  pub enable : Holds (enableRule (C .depth a) (S .control))

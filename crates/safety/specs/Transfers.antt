@@ -7,13 +7,13 @@ use Prim.Native.Nat.{ℕ}
 use lib.Dec.{eqb}
 use Rattle.base.specs.declared.RegAddr.{RegAddr}
 use Rattle.base.specs.declared.RomAddr.{RomAddr}
+use Rattle.base.specs.Addresses.{spCell}
 use Rattle.base.specs.Formula.{Holds, eqb-yes, case-bool}
 use Rattle.isa.specs.declared.Alu.{Alu}
 use Rattle.alu.specs.Operations.{stores}
 use Rattle.action.specs.declared.Operand.{Operand}
 use Rattle.action.specs.declared.Operand.the-variants.{Register, Indirect, Immediate}
 use Rattle.action.specs.declared.Action.{Action}
-use Rattle.semantics.specs.Operands.{spCell}
 use Rattle.certificate.specs.declared.StackEffect.{StackEffect}
 use Rattle.certificate.specs.declared.StackEffect.the-variants.{Same, Push, Pop, Load}
 use Rattle.certificate.specs.declared.Flow.{Flow}

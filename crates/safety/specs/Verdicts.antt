@@ -1,7 +1,10 @@
--- The verdict on an image and a certificate: 7 for wrong lengths, then rule 20, then the lowest address and there the lowest number.
+-- The verdict on an image and a certificate: 7 for wrong lengths, then rule 20, then the lowest address and there the lowest number. Below it,
+-- what a verdict reports of the rules.
 -- Assumes nothing.
-use Prim.Native.Nat.{ℕ, zero, suc, _+_, _%_}
-use mathlib.Core.Bool.{Bool, true, false, _&&_}
+use Prim.Native.Nat.{ℕ, zero, suc, _+_, _%_, _<_}
+use mathlib.Core.Path.{_≡_}
+use mathlib.Core.Logic.{_≢_, _⊎_}
+use mathlib.Core.Bool.{true, false, _&&_}
 use mathlib.Core.List.{List, [], _∷_}
 use lib.ListN.{length, getD}
 use lib.Dec.{eqb}
@@ -9,8 +12,8 @@ use Rattle.base.specs.Addresses.{romAddr}
 use Rattle.base.specs.Choice.{pick}
 use Rattle.base.specs.Outcome.{Outcome}
 use Rattle.base.specs.Outcome.Outcome.{value, refused}
-use Rattle.base.specs.Formula.{Formula, decide}
-use Rattle.base.specs.Lengths.{romLength, isImageLength, isCertificateLength}
+use Rattle.base.specs.Formula.{Formula, Holds, decide, eq, _&_}
+use Rattle.base.specs.Lengths.{romLength, certificateLength, isImageLength, isCertificateLength}
 use Rattle.isa.specs.declared.Instruction.{Instruction}
 use Rattle.isa.specs.Map.{cyclesOf}
 use Rattle.decode.specs.Decode.{decodeAt}
@@ -83,3 +86,40 @@ unfoldable pub verdictOf : List ℕ → List ℕ → Verdict
 verdictOf image cert =
     pick (isImageLength (length image) && isCertificateLength (length cert)) (verdictOn (certificateOf cert) image)
     (Refused 7 (romAddr 0))
+
+-- What a verdict reports: accepted, that no rule is broken; refused n a, that n is the first broken rule and a its address --
+
+-- n is the number of a rule of the list that is broken
+abbrev pub Breaks : List Rule → ℕ → Type 0
+Breaks [] n = ⊥
+Breaks (r ∷ rs) n = ((r .number ≡ n) × (Holds (r .formula) → ⊥)) ⊎ Breaks rs n
+
+-- image and certificate have their lengths
+abbrev pub lengthsRight : List ℕ → List ℕ → Formula
+lengthsRight image cert = eq (length image) romLength & eq (length cert) certificateLength
+
+-- the rules on the whole, which report 0000H: 7 the lengths, and 20
+abbrev pub rulesOnWhole : List ℕ → List ℕ → List Rule
+rulesOnWhole image cert =
+    record { number = 7; formula = lengthsRight image cert }
+    ∷ record { number = 20; formula = rule20 (certificateOf cert) image }
+    ∷ []
+
+-- rule n is broken at address a: 7 and 20 at 0000H; 21 to 27 at an address with an entry
+abbrev pub Broken : List ℕ → List ℕ → ℕ → ℕ → Type 0
+Broken image cert n a =
+    ((a ≡ 0) × Breaks (rulesOnWhole image cert) n)
+    ⊎ ((a < romLength) × (certificateOf cert .routine a ≢ 0) × Breaks (rulesAt (certificateOf cert) image a) n)
+
+-- the lowest address counts, and there the lowest number
+abbrev pub Reports : List ℕ → List ℕ → Verdict → Type 0
+Reports image cert Accepted = (n a : ℕ) → Broken image cert n a → ⊥
+Reports image cert (Refused n a) =
+    Broken image cert n (a .0)
+    × ((k : ℕ) → k < n → Broken image cert k (a .0) → ⊥)
+    × ((b : ℕ) → b < a .0 → (k : ℕ) → Broken image cert k b → ⊥)
+
+-- a verdict that reports what is so, and the only one that does
+pub record Exact (image cert : List ℕ) (v : Verdict) : Type 0 where
+  pub reports : Reports image cert v
+  pub only : (w : Verdict) → Reports image cert w → w ≡ v

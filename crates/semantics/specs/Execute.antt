@@ -1,14 +1,14 @@
 -- What each action does to the registers, the program counter and the mode: the printed actions of the instruction's page in order, each on the
 -- state left before it. A register that is not mapped is refusal 13; LDE, LDC that writes, and LDC outside ROM are 14.
 -- Assumes nothing.
-use Prim.Native.Nat.{ℕ, _+_, _*_, _/_, _%_}
-use mathlib.Core.Bool.{Bool, true, false, _&&_}
+use Prim.Native.Nat.{ℕ, _+_, _/_, _%_}
+use mathlib.Core.Bool.{Bool, true, _&&_}
 use mathlib.Core.List.{List}
 use lib.ListN.{length, getD}
 use lib.Dec.{eqb, ltb}
 use Rattle.base.specs.declared.RegAddr.{RegAddr}
 use Rattle.base.specs.declared.RomAddr.{RomAddr}
-use Rattle.base.specs.Addresses.{romAddr, displaced}
+use Rattle.base.specs.Addresses.{romAddr, flagsCell, stopconCell, displaced}
 use Rattle.base.specs.Choice.{pick}
 use Rattle.isa.specs.declared.Alu.{Alu}
 use Rattle.isa.specs.declared.Unary.{Unary}
@@ -26,7 +26,7 @@ use Rattle.action.specs.declared.Action.{Action}
 use Rattle.semantics.specs.declared.Mode.{Mode}
 use Rattle.semantics.specs.declared.Mode.the-variants.{Running, Idle, Stopped}
 use Rattle.semantics.specs.declared.Next.{Next}
-use Rattle.semantics.specs.Operands.{placeOf, fetchOf, withFlags, Pushed, lowered, raised, storeTop, pushAddress, wordAt, wordMapped, spOf, flagsCell, stopconCell}
+use Rattle.semantics.specs.Operands.{placeOf, fetchOf, withFlags, lowered, raised, storeTop, pushAddress, wordAt, wordMapped, spOf}
 
 -- the registers, and what is left beside them
 pub record Executed : Type 0 where

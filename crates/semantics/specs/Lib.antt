@@ -1,5 +1,6 @@
 pub mod Execute
 pub mod Operands
+pub mod Refusals
 pub mod Reset
 pub mod ResetLaws
 pub mod Run

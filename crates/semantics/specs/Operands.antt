@@ -4,10 +4,8 @@ use Prim.Native.Nat.{ℕ, _+_, _*_, _/_, _%_}
 use mathlib.Core.Bool.{Bool, true, false, _&&_}
 use mathlib.Core.List.{List}
 use lib.ListN.{getD, set}
-use Rattle.base.specs.declared.RegAddr.{RegAddr}
 use Rattle.base.specs.declared.RomAddr.{RomAddr}
-use Rattle.base.specs.Addresses.{regAddr, romAddr}
-use Rattle.base.specs.Choice.{pick}
+use Rattle.base.specs.Addresses.{regAddr, flagsCell, spCell}
 use Rattle.chip.specs.Registers.{mappedOf, loadOf, storeOf}
 use Rattle.alu.specs.declared.FlagUpdate.{FlagUpdate}
 use Rattle.alu.specs.Flags.{update}
@@ -15,19 +13,6 @@ use Rattle.action.specs.declared.Operand.{Operand}
 use Rattle.action.specs.declared.Operand.the-variants.{Register, Indirect, Immediate}
 use Rattle.semantics.specs.declared.Place.{Place}
 use Rattle.semantics.specs.declared.Fetched.{Fetched}
-
--- FLAGS, SP, SYM and STOPCON
-abbrev pub flagsCell : ℕ
-flagsCell = 0xD5
-
-abbrev pub spCell : ℕ
-spCell = 0xD9
-
-abbrev pub symCell : ℕ
-symCell = 0xDF
-
-abbrev pub stopconCell : ℕ
-stopconCell = 0xF4
 
 -- SP keeps all its bits, FLAGS bits 7 to 4
 abbrev pub spOf : List ℕ → ℕ

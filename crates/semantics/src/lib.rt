@@ -2,6 +2,7 @@
 // from `operands` to `machine`.
 use base::RegAddr;
 use base::RomAddr;
+use chip::Registers;
 
 // Whether the machine runs, or waits for an interrupt in IDLE or in STOP.
 pub enum Mode {
@@ -12,7 +13,7 @@ pub enum Mode {
 
 // The register file, the program counter, the mode and the cycle total modulo 2^32.
 pub struct State {
-    pub regs: [u8; 256],
+    pub regs: Registers,
     pub pc: RomAddr,
     pub mode: Mode,
     pub cycles: u32,

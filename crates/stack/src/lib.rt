@@ -4,39 +4,42 @@ ghost use mathlib.Core.Path.{_≡_};
 ghost use Rattle.semantics.specs.Operands.{lowered, raised, storeTop, pushOf, pushAddress};
 ghost use Rattle.semantics.specs.Execute.{pushOperand, popOperand, callOf, callPairOf, returnOf, interruptReturnOf};
 use action::Operand;
+use base::FLAGS;
 use base::RegAddr;
 use base::RomAddr;
+use base::SP_INDEX;
 use chip::Inputs;
+use chip::Registers;
 use semantics::Next;
 
 // SP is lowered by one.
-fn lower(regs: &mut [u8; 256])
+fn lower(regs: &mut Registers)
     ensures { λ _. ⌜ now (regs .exit) ≡ lowered (now (regs .entry)) ⌝ }
 {
-    let sp = std::num::wrapping_sub_u8(regs[0xD9], 1);
-    regs[0xD9] = sp;
+    let sp = std::num::wrapping_sub_u8(regs[SP_INDEX], 1);
+    regs[SP_INDEX] = sp;
 }
 
 // SP is raised by k.
-fn raise(regs: &mut [u8; 256], k: u8)
+fn raise(regs: &mut Registers, k: u8)
     ensures { λ _. ⌜ now (regs .exit) ≡ raised (now (regs .entry)) k ⌝ }
 {
-    let sp = std::num::wrapping_add_u8(regs[0xD9], k);
-    regs[0xD9] = sp;
+    let sp = std::num::wrapping_add_u8(regs[SP_INDEX], k);
+    regs[SP_INDEX] = sp;
 }
 
 // A write where SP points; whether that is mapped.
-fn store_top(regs: &mut [u8; 256], v: u8) -> bool
+fn store_top(regs: &mut Registers, v: u8) -> bool
     ensures regs { λ _. ⌜ now (regs .exit) ≡ storeTop (now (regs .entry)) v .regs ⌝ }
     ensures ok { λ r. ⌜ r ≡ storeTop (now (regs .entry)) v .ok ⌝ }
 {
-    let a = RegAddr(regs[0xD9]);
+    let a = RegAddr(regs[SP_INDEX]);
     chip::store(regs, a, v);
     chip::mapped(a)
 }
 
 // SP is lowered, then v is written where it points; whether that is mapped.
-pub fn push(regs: &mut [u8; 256], v: u8) -> bool
+pub fn push(regs: &mut Registers, v: u8) -> bool
     ensures regs { λ _. ⌜ now (regs .exit) ≡ pushOf (now (regs .entry)) v .regs ⌝ }
     ensures ok { λ r. ⌜ r ≡ pushOf (now (regs .entry)) v .ok ⌝ }
 {
@@ -45,7 +48,7 @@ pub fn push(regs: &mut [u8; 256], v: u8) -> bool
 }
 
 // The low half of an address is pushed, then the high half.
-pub fn push_address(regs: &mut [u8; 256], a: RomAddr) -> bool
+pub fn push_address(regs: &mut Registers, a: RomAddr) -> bool
     ensures regs { λ _. ⌜ now (regs .exit) ≡ pushAddress (now (regs .entry)) a .regs ⌝ }
     ensures ok { λ r. ⌜ r ≡ pushAddress (now (regs .entry)) a .ok ⌝ }
 {
@@ -55,7 +58,7 @@ pub fn push_address(regs: &mut [u8; 256], a: RomAddr) -> bool
 }
 
 // PUSH: SP is lowered, then the operand is read.
-pub fn push_operand(s: Operand, regs: &mut [u8; 256], rec: &Inputs, pc: RomAddr) -> Next
+pub fn push_operand(s: Operand, regs: &mut Registers, rec: &Inputs, pc: RomAddr) -> Next
     ensures regs { λ _. ⌜ now (regs .exit) ≡ pushOperand s (now (regs .entry)) (now (rec .entry)) pc .regs ⌝ }
     ensures next { λ r. ⌜ r ≡ pushOperand s (now (regs .entry)) (now (rec .entry)) pc .next ⌝ }
 {
@@ -66,12 +69,12 @@ pub fn push_operand(s: Operand, regs: &mut [u8; 256], rec: &Inputs, pc: RomAddr)
 }
 
 // POP: the byte where SP points is stored, then SP is raised.
-pub fn pop_operand(d: Operand, regs: &mut [u8; 256], rec: &Inputs, pc: RomAddr) -> Next
+pub fn pop_operand(d: Operand, regs: &mut Registers, rec: &Inputs, pc: RomAddr) -> Next
     ensures regs { λ _. ⌜ now (regs .exit) ≡ popOperand d (now (regs .entry)) (now (rec .entry)) pc .regs ⌝ }
     ensures next { λ r. ⌜ r ≡ popOperand d (now (regs .entry)) (now (rec .entry)) pc .next ⌝ }
 {
     let p = operands::place_of(regs, rec, d);
-    let top = RegAddr(regs[0xD9]);
+    let top = RegAddr(regs[SP_INDEX]);
     let v = chip::load(regs, rec, top);
     let a = p.addr;
     chip::store(regs, a, v);
@@ -80,7 +83,7 @@ pub fn pop_operand(d: Operand, regs: &mut [u8; 256], rec: &Inputs, pc: RomAddr) 
 }
 
 // CALL: the address behind it is pushed.
-pub fn call(to: RomAddr, regs: &mut [u8; 256], pc: RomAddr) -> Next
+pub fn call(to: RomAddr, regs: &mut Registers, pc: RomAddr) -> Next
     ensures regs { λ _. ⌜ now (regs .exit) ≡ callOf to (now (regs .entry)) pc .regs ⌝ }
     ensures next { λ r. ⌜ r ≡ callOf to (now (regs .entry)) pc .next ⌝ }
 {
@@ -88,7 +91,7 @@ pub fn call(to: RomAddr, regs: &mut [u8; 256], pc: RomAddr) -> Next
 }
 
 // CALL through a pair, which is read after the pushes.
-pub fn call_pair(p: RegAddr, regs: &mut [u8; 256], rec: &Inputs, pc: RomAddr) -> Next
+pub fn call_pair(p: RegAddr, regs: &mut Registers, rec: &Inputs, pc: RomAddr) -> Next
     ensures regs { λ _. ⌜ now (regs .exit) ≡ callPairOf p (now (regs .entry)) (now (rec .entry)) pc .regs ⌝ }
     ensures next { λ r. ⌜ r ≡ callPairOf p (now (regs .entry)) (now (rec .entry)) pc .next ⌝ }
 {
@@ -100,26 +103,26 @@ pub fn call_pair(p: RegAddr, regs: &mut [u8; 256], rec: &Inputs, pc: RomAddr) ->
 }
 
 // RET.
-pub fn return_from_call(regs: &mut [u8; 256], rec: &Inputs) -> Next
+pub fn return_from_call(regs: &mut Registers, rec: &Inputs) -> Next
     ensures regs { λ _. ⌜ now (regs .exit) ≡ returnOf (now (regs .entry)) (now (rec .entry)) .regs ⌝ }
     ensures next { λ r. ⌜ r ≡ returnOf (now (regs .entry)) (now (rec .entry)) .next ⌝ }
 {
-    let top = RegAddr(regs[0xD9]);
+    let top = RegAddr(regs[SP_INDEX]);
     let to = RomAddr(operands::word_at(regs, rec, top));
     raise(regs, 2);
     operands::goes_on(operands::word_mapped(top), to)
 }
 
 // IRET: FLAGS from the stack, then as RET; SYM.2 becomes 1.
-pub fn interrupt_return(regs: &mut [u8; 256], rec: &Inputs) -> Next
+pub fn interrupt_return(regs: &mut Registers, rec: &Inputs) -> Next
     ensures regs { λ _. ⌜ now (regs .exit) ≡ interruptReturnOf (now (regs .entry)) (now (rec .entry)) .regs ⌝ }
     ensures next { λ r. ⌜ r ≡ interruptReturnOf (now (regs .entry)) (now (rec .entry)) .next ⌝ }
 {
-    let top = RegAddr(regs[0xD9]);
+    let top = RegAddr(regs[SP_INDEX]);
     let f = chip::load(regs, rec, top);
-    chip::store(regs, RegAddr(0xD5), f);
+    chip::store(regs, RegAddr(FLAGS), f);
     raise(regs, 1);
-    let high = RegAddr(regs[0xD9]);
+    let high = RegAddr(regs[SP_INDEX]);
     let t = return_from_call(regs, rec);
     let to = t.pc;
     chip::set_interrupts(regs, true);

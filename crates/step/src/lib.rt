@@ -10,13 +10,14 @@ ghost use Rattle.semantics.specs.Step.{afterDecode, instructionAct, modeAct, ac
 ghost use Rattle.entry.specs.InPlace.{stateWith, acted, rebuilt, stepped};
 use base::RomAddr;
 use chip::Inputs;
+use chip::Registers;
 use entry::Core;
 use entry::Ended;
 use isa::Decoded;
 use semantics::Mode;
 
 // The instruction that was decoded, on the registers after the requests.
-fn after_decode(d: Decoded, image: &[u8], s: Core, regs: &mut [u8; 256], rec: &Inputs) -> Ended
+fn after_decode(d: Decoded, image: &[u8], s: Core, regs: &mut Registers, rec: &Inputs) -> Ended
     ensures { λ r. ⌜ ((saved : List ℕ) → rebuilt saved (now (regs .exit)) r ≡ afterDecode (decoded d) (now (image .entry)) (stateWith saved s) (now (regs .entry)) (now (rec .entry))) ⌝ }
 {
     match d {
@@ -34,7 +35,7 @@ fn after_decode(d: Decoded, image: &[u8], s: Core, regs: &mut [u8; 256], rec: &I
 }
 
 // One instruction.
-fn instruction(image: &[u8], s: Core, regs: &mut [u8; 256], rec: &Inputs) -> Ended
+fn instruction(image: &[u8], s: Core, regs: &mut Registers, rec: &Inputs) -> Ended
     ensures { λ r. ⌜ ((saved : List ℕ) → rebuilt saved (now (regs .exit)) r ≡ instructionAct (now (image .entry)) (stateWith saved s) (now (regs .entry)) (now (rec .entry))) ⌝ }
 {
     let pc = s.pc;
@@ -45,7 +46,7 @@ fn instruction(image: &[u8], s: Core, regs: &mut [u8; 256], rec: &Inputs) -> End
 const IDLE_CYCLES: u8 = 4;
 
 // The act of a machine for which no entry is due.
-fn mode_act(mode: Mode, image: &[u8], s: Core, regs: &mut [u8; 256], rec: &Inputs) -> Ended
+fn mode_act(mode: Mode, image: &[u8], s: Core, regs: &mut Registers, rec: &Inputs) -> Ended
     ensures { λ r. ⌜ ((saved : List ℕ) → rebuilt saved (now (regs .exit)) r ≡ modeAct mode (now (image .entry)) (stateWith saved s) (now (regs .entry)) (now (rec .entry))) ⌝ }
 {
     match mode {
@@ -56,7 +57,7 @@ fn mode_act(mode: Mode, image: &[u8], s: Core, regs: &mut [u8; 256], rec: &Input
 }
 
 // What follows the requests.
-fn after_requests(due: bool, image: &[u8], s: Core, regs: &mut [u8; 256], rec: &Inputs) -> Ended
+fn after_requests(due: bool, image: &[u8], s: Core, regs: &mut Registers, rec: &Inputs) -> Ended
     ensures { λ r. ⌜ ((saved : List ℕ) → rebuilt saved (now (regs .exit)) r ≡ actAfterRequests due (now (image .entry)) (stateWith saved s) (now (regs .entry)) (now (rec .entry))) ⌝ }
 {
     if due {
@@ -67,7 +68,7 @@ fn after_requests(due: bool, image: &[u8], s: Core, regs: &mut [u8; 256], rec: &
 }
 
 // Puts the registers back where a step stopped.
-fn put_back(regs: &mut [u8; 256], before: [u8; 256], done: bool)
+fn put_back(regs: &mut Registers, before: Registers, done: bool)
     ensures { λ _. ⌜ now (regs .exit) ≡ pick done (now (regs .entry)) before ⌝ }
 {
     if done {
@@ -77,7 +78,7 @@ fn put_back(regs: &mut [u8; 256], before: [u8; 256], done: bool)
 }
 
 // The first half: what the requests, the entry, waiting or the instruction do.
-fn act(image: &[u8], s: Core, regs: &mut [u8; 256], rec: &Inputs) -> Ended
+fn act(image: &[u8], s: Core, regs: &mut Registers, rec: &Inputs) -> Ended
     ensures { λ r. ⌜ acted (now (regs .exit)) r ≡ actedOf (now (image .entry)) (stateWith (now (regs .entry)) s) (now (rec .entry)) ⌝ }
 {
     let before = *regs;
@@ -91,7 +92,7 @@ fn act(image: &[u8], s: Core, regs: &mut [u8; 256], rec: &Inputs) -> Ended
 }
 
 // The second half: nothing settles.
-fn settle(regs: &mut [u8; 256], a: Ended) -> Ended
+fn settle(regs: &mut Registers, a: Ended) -> Ended
     ensures step { λ r. ⌜ ((s : State) → stepped (now (regs .exit)) r ≡ settled s (acted (now (regs .entry)) a)) ⌝ }
     ensures retired { λ r. ⌜ r .retired ≡ a .retired ⌝ }
     ensures elapsed { λ r. ⌜ r .elapsed ≡ a .elapsed ⌝ }
@@ -100,7 +101,7 @@ fn settle(regs: &mut [u8; 256], a: Ended) -> Ended
 }
 
 // A step with its registers in place. It also tells whether an instruction began and completed, and the cycles that elapse for the timers.
-pub fn step_in_place(image: &[u8], s: Core, regs: &mut [u8; 256], rec: &Inputs) -> Ended
+pub fn step_in_place(image: &[u8], s: Core, regs: &mut Registers, rec: &Inputs) -> Ended
     ensures step { λ r. ⌜ stepped (now (regs .exit)) r ≡ settled (stateWith (now (regs .entry)) s) (actedOf (now (image .entry)) (stateWith (now (regs .entry)) s) (now (rec .entry))) ⌝ }
     ensures retired { λ r. ⌜ r .retired ≡ actedOf (now (image .entry)) (stateWith (now (regs .entry)) s) (now (rec .entry)) .retired ⌝ }
     ensures elapsed { λ r. ⌜ r .elapsed ≡ actedOf (now (image .entry)) (stateWith (now (regs .entry)) s) (now (rec .entry)) .elapsed ⌝ }

@@ -1,11 +1,16 @@
-// Compares `machine::step` with the cases of the file `steps.bin`. Numbers are high byte first. ROM is FFH where a case gives no byte.
-ghost use Prim.Native.Nat.{_+_, _≤_};
+// Compares `machine::step` with the cases of the file `steps.bin`. ROM is FFH where a case gives no byte.
 use base::IMAGE_LENGTH;
 use base::RECORD_LENGTH;
 use base::RomAddr;
-use libc::STDOUT_FILENO;
+use base::byte_at;
 use semantics::Mode;
 use semantics::State;
+use semantics::Stepped;
+use test_support::Case;
+use test_support::Counts;
+use test_support::long_at;
+use test_support::put;
+use test_support::word_at;
 
 // Where the fields of a state begin.
 const PC: usize = 0;
@@ -29,9 +34,7 @@ const VECTOR: usize = 2;
 
 const WINDOW: usize = 4;
 
-const WINDOW_LENGTH: usize = 8;
-
-const GIVEN: usize = WINDOW + WINDOW_LENGTH;
+const GIVEN: usize = WINDOW + 8;
 
 const RECORD: usize = GIVEN + STATE_LENGTH;
 
@@ -40,19 +43,6 @@ const NUMBER: usize = RECORD + RECORD_LENGTH;
 const EXPECTED: usize = NUMBER + 1;
 
 const CASE_LENGTH: usize = EXPECTED + STATE_LENGTH;
-
-// In a contract 551 stands for CASE_LENGTH, and 265 for STATE_LENGTH.
-type Case = [u8; CASE_LENGTH];
-
-// How many differences are printed.
-const PRINTED: u64 = 5;
-
-// The numbers of cases that were compared, and that differ.
-struct Count {
-    compared: u64,
-    differ: u64,
-    more: bool,
-}
 
 fn mode_of(n: u8) -> Mode {
     match n {
@@ -70,172 +60,104 @@ fn mode_number(mode: Mode) -> u8 {
     }
 }
 
-// Two bytes of a case as a number.
-fn word_at(case: &Case, at: usize) -> u16
-    requires { ⌜ at + 2 ≤ 551 ⌝ }
-{
-    operands::word(case[at], case[at + 1])
-}
-
-// Four bytes of a case as a number.
-fn long_at(case: &Case, at: usize) -> u32
-    requires { ⌜ at + 4 ≤ 551 ⌝ }
-{
-    (word_at(case, at) as u32) * 65536 + (word_at(case, at + 2) as u32)
-}
-
-// The registers of the state that begins at an offset.
-fn registers_at(case: &Case, at: usize) -> [u8; 256]
-    requires { ⌜ at + 265 ≤ 551 ⌝ }
-{
+// The registers of a state that is given as bytes.
+fn registers_of(bytes: &[u8]) -> [u8; 256] {
     let mut regs = [0u8; 256];
-    let mut i = 0;
-    while i < 256 {
-        regs[i] = case[at + REGISTERS + i];
-        i += 1;
+    if REGISTERS <= bytes.len() {
+        put(&mut regs, 0, &bytes[REGISTERS..]);
     }
     regs
 }
 
-// The state that begins at an offset.
-fn state_at(case: &Case, at: usize) -> State
-    requires { ⌜ at + 265 ≤ 551 ⌝ }
-{
-    let regs = registers_at(case, at);
+// The state that is given as bytes.
+fn state_of(bytes: &[u8]) -> State {
+    let regs = registers_of(bytes);
     State {
         regs: regs,
-        pc: RomAddr(word_at(case, at + PC)),
-        mode: mode_of(case[at + MODE]),
-        cycles: long_at(case, at + CYCLES),
+        pc: RomAddr(word_at(bytes, PC)),
+        mode: mode_of(byte_at(bytes, MODE)),
+        cycles: long_at(bytes, CYCLES),
     }
 }
 
-// Whether the registers are those of the state that begins at an offset.
-fn same_registers(regs: &[u8; 256], case: &Case, at: usize) -> bool
-    requires { ⌜ at + 265 ≤ 551 ⌝ }
-{
-    let mut i = 0;
-    while i < 256 {
-        if regs[i] != case[at + REGISTERS + i] {
-            return false;
-        }
-        i += 1;
-    }
-    true
-}
-
-// Whether a state is the one that begins at an offset.
-fn same_state(state: State, case: &Case, at: usize) -> bool
-    requires { ⌜ at + 265 ≤ 551 ⌝ }
-{
+// Whether a state is the one that is given as bytes.
+fn same_state(state: State, bytes: &[u8]) -> bool {
     let pc = state.pc;
     let mode = state.mode;
     let regs = state.regs;
-    (pc.0 == word_at(case, at + PC))
-        & (mode_number(mode) == case[at + MODE])
-        & (state.cycles == long_at(case, at + CYCLES))
-        & same_registers(&regs, case, at)
+    (pc.0 == word_at(bytes, PC))
+        & (mode_number(mode) == byte_at(bytes, MODE))
+        & (state.cycles == long_at(bytes, CYCLES))
+        & check::same(&regs, &registers_of(bytes))
 }
 
-// A ROM byte; past the end it is dropped.
-fn put(image: &mut [u8; IMAGE_LENGTH], at: usize, v: u8) {
-    if at < IMAGE_LENGTH {
-        image[at] = v;
-    }
-}
-
-// Puts the window of a case at its program counter.
-fn put_window(image: &mut [u8; IMAGE_LENGTH], case: &Case) {
-    let pc = word_at(case, GIVEN + PC) as usize;
-    let mut i = 0;
-    while i < WINDOW_LENGTH {
-        put(image, pc + i, case[WINDOW + i]);
-        i += 1;
-    }
-}
-
-// The image of a case.
-fn image_of(case: &Case) -> [u8; IMAGE_LENGTH] {
+// The image of a case; bytes of the window past ROM's end are dropped.
+fn image_of(vector: &[u8], pc: u16, window: &[u8]) -> [u8; IMAGE_LENGTH] {
     let mut image = [255u8; IMAGE_LENGTH];
-    image[0] = case[VECTOR];
-    image[1] = case[VECTOR + 1];
-    put_window(&mut image, case);
+    put(&mut image, 0, vector);
+    put(&mut image, pc as usize, window);
     image
 }
 
 // Whether a case has 0 for all that the machine does not have yet: profile, entry cost and divider.
-fn is_supported(case: &Case) -> bool {
-    (case[PROFILE] == 0)
-        & (case[ENTRY_COST] == 0)
+fn is_supported(case: &[u8]) -> bool {
+    (byte_at(case, PROFILE) == 0)
+        & (byte_at(case, ENTRY_COST) == 0)
         & (word_at(case, GIVEN + DIVIDER) == 0)
         & (word_at(case, EXPECTED + DIVIDER) == 0)
 }
 
-// Whether the step of a case leaves what the case expects.
-fn agrees(case: &Case) -> bool {
-    let image = image_of(case);
+// The step of a case.
+fn step_of(case: &[u8; CASE_LENGTH]) -> Stepped {
     let bytes = &case[..];
-    let r = machine::step(&image, state_at(case, GIVEN), &bytes[RECORD..NUMBER]);
+    let image = image_of(
+        &bytes[VECTOR..WINDOW],
+        word_at(bytes, GIVEN + PC),
+        &bytes[WINDOW..GIVEN],
+    );
+    machine::step(
+        &image,
+        state_of(&bytes[GIVEN..RECORD]),
+        &bytes[RECORD..NUMBER],
+    )
+}
+
+// Whether the step of a case leaves what the case expects.
+fn agrees(case: &[u8; CASE_LENGTH]) -> bool {
+    let bytes = &case[..];
+    let expected = &bytes[EXPECTED..CASE_LENGTH];
+    let r = step_of(case);
     let state = r.state;
-    is_supported(case) & (r.stop == case[NUMBER]) & same_state(state, case, EXPECTED)
+    is_supported(bytes) & (r.stop == case[NUMBER]) & same_state(state, expected)
 }
 
 fn wide(x: u8) -> u64 {
     x as u64
 }
 
-// Tells of a case that differs.
-fn tell(number: u64, case: &Case) {
-    io::write_all(STDOUT_FILENO, b"case ");
-    io::print_decimal(STDOUT_FILENO, number);
-    io::write_all(STDOUT_FILENO, b" differs, first byte ");
-    io::print_hex(STDOUT_FILENO, wide(case[WINDOW]), 2);
-    io::write_all(STDOUT_FILENO, b"\n");
-}
-
-// The next case of the file, if there is one; one that is cut off differs.
-fn next_case(fd: i32, count: Count) -> Count {
+// The next case of the file; one that is cut off differs.
+fn run_case(fd: i32, counts: Counts) -> Case {
     let mut case = [0u8; CASE_LENGTH];
     let n = io::read_full(fd, &mut case);
-    let mut next = count;
     if n == 0 {
-        next.more = false;
-        return next;
+        return Case::End;
     }
-    next.compared = std::num::wrapping_add_u64(count.compared, 1);
     if (n == CASE_LENGTH) & agrees(&case) {
-        return next;
+        return Case::Same;
     }
-    if count.differ < PRINTED {
-        tell(count.compared, &case);
+    if test_support::tells(counts) {
+        test_support::print(b" differs, first byte ");
+        test_support::print_hex(wide(case[WINDOW]), 2);
+        test_support::print(b"\n");
     }
-    next.differ = std::num::wrapping_add_u64(count.differ, 1);
-    next
-}
-
-// All cases; the number of turns is one that no run uses up.
-fn compare_all(fd: i32) -> Count {
-    let mut turns = u64::MAX;
-    let mut count = Count {
-        compared: 0,
-        differ: 0,
-        more: true,
-    };
-    while turns > 0 {
-        count = next_case(fd, count);
-        if !count.more {
-            return count;
-        }
-        turns -= 1;
-    }
-    count
+    Case::Differs
 }
 
 fn main() {
-    let fd = os::open_read(b"steps.bin");
-    let count = compare_all(fd);
-    io::print_decimal(STDOUT_FILENO, count.compared);
-    io::write_all(STDOUT_FILENO, b" compared, ");
-    io::print_decimal(STDOUT_FILENO, count.differ);
-    io::write_all(STDOUT_FILENO, b" differ\n");
+    let fd = test_support::open(b"steps.bin");
+    let mut counts = test_support::start();
+    while counts.left > 0 {
+        counts = test_support::counted(counts, run_case(fd, counts));
+    }
+    test_support::finish(fd, counts);
 }

@@ -236,7 +236,7 @@ fn modify_summary(op: Unary, d: Operand) -> Summary
 fn load_number(a: RegAddr, n: u8) -> Summary
     ensures { λ r. ⌜ r ≡ loadSummary (Operand.Register a) (Operand.Immediate n) ⌝ }
 {
-    if a.0 == 0xD9 {
+    if a.0 == base::SP {
         return moving(
             Write::Nothing,
             Access::Nothing,

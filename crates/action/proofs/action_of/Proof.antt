@@ -1,3 +1,5 @@
+-- Each form's arm is the definition's clause of that form.
+-- Assumes nothing.
 use borrow.Author.Needs.{needs}
 use Rattle.action.specs.Action.{actionOf}
 use Rattle.action.proofs.action_of.Statement.{statement}

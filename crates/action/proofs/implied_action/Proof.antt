@@ -1,3 +1,5 @@
+-- Each operation without operands is the definition's clause of it.
+-- Assumes nothing.
 use borrow.Author.Needs.{needs}
 use Rattle.action.proofs.implied_action.Statement.{statement}
 use Rattle.action.proofs.implied_action.Tie as tie

@@ -1,3 +1,5 @@
+-- An even pair is LDC, an odd one LDE.
+-- Assumes nothing.
 use borrow.Author.Tests.{eq-eqb, ne-eqb}
 use borrow.Author.Needs.{needs}
 use Rattle.action.proofs.load_code.Statement.{statement}

@@ -1,3 +1,5 @@
+-- The mark tells LDE from LDC.
+-- Assumes nothing.
 use borrow.Author.Needs.{needs}
 use Rattle.action.proofs.load_code_direct.Statement.{statement}
 use Rattle.action.proofs.load_code_direct.Tie as tie

@@ -1,3 +1,5 @@
+-- An even pair is LDCI or LDCD, an odd one LDE's.
+-- Assumes nothing.
 use borrow.Author.Tests.{eq-eqb, ne-eqb}
 use borrow.Author.Needs.{needs}
 use Rattle.action.proofs.load_code_step.Statement.{statement}

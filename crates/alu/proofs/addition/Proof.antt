@@ -1,4 +1,4 @@
--- `alu::addition` meets its contract.
+-- Two wrapped sums are the sum modulo 256; C and V are the definition's tests of the unwrapped one.
 -- Assumes nothing.
 use Prim.Native.Nat.{_+_, _%_}
 use mathlib.Core.Path.{_≡_}

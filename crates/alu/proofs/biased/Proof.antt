@@ -1,4 +1,4 @@
--- `alu::biased` meets its contract.
+-- The wrapped sum with 128 is the sum modulo 256.
 -- Assumes nothing.
 use native.Mathlib.Omega.{arith}
 use borrow.Author.Needs.{needs}

@@ -1,4 +1,4 @@
--- `alu::carry` meets its contract.
+-- The test of bit 7 is the definition's.
 -- Assumes nothing.
 use mathlib.Core.Path.{refl}
 use Rattle.alu.specs.Flags.{carry}

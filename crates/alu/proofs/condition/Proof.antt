@@ -1,4 +1,4 @@
--- `alu::condition` meets its contract.
+-- The condition of the byte's four flags, by the low 4 bits of its number.
 -- Assumes nothing.
 use borrow.Author.Needs.{needs}
 use Rattle.alu.specs.Flags.{condition}
@@ -22,7 +22,9 @@ condition-on-requires c κs = search needs
 
 returns : tie.Need-returns
 unfolding condition
-returns c = simp (c .condition-on .ensures, c .before .overflow-flag .ensures, c .before .before .sign-flag .ensures, c .before .before .before .zero-flag .ensures, c .before .before .before .before .carry .ensures)
+returns c =
+    let z = c .before .before .before in
+    simp (c .condition-on .ensures, c .before .overflow-flag .ensures, c .before .before .sign-flag .ensures, z .zero-flag .ensures, z .before .carry .ensures)
 
 pub condition-spec : {M : Type 1} → statement M
 condition-spec =

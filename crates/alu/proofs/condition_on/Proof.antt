@@ -1,4 +1,4 @@
--- `alu::condition_on` meets its contract.
+-- Each number's arm is the entry of table 6-6; a number above 15 is in no entry.
 -- Assumes nothing.
 use mathlib.Core.Bool.{false}
 use mathlib.Core.Path.{sym}

@@ -1,4 +1,4 @@
--- `alu::decrement` meets its contract.
+-- The wrapped difference with 1 is the sum with 255 modulo 256.
 -- Assumes nothing.
 use native.Mathlib.Omega.{arith}
 use borrow.Author.Needs.{needs}

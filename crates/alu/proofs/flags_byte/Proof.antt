@@ -1,4 +1,4 @@
--- `alu::flags_byte` meets its contract.
+-- The four weights add up to the definition's byte.
 -- Assumes nothing.
 use borrow.Author.Needs.{needs}
 use Rattle.alu.specs.Flags.{flagsByte}

@@ -1,4 +1,4 @@
--- `alu::increment` meets its contract.
+-- The wrapped sum with 1 is the sum modulo 256.
 -- Assumes nothing.
 use borrow.Author.Needs.{needs}
 use Rattle.alu.specs.Operations.{increment}

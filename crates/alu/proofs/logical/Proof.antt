@@ -1,4 +1,4 @@
--- `alu::logical` meets its contract.
+-- Z and S are the tests of the value, V is 0.
 -- Assumes nothing.
 use mathlib.Core.Path.{refl}
 use Rattle.alu.specs.Operations.{logical}

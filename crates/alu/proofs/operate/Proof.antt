@@ -1,4 +1,4 @@
--- `alu::operate` meets its contract.
+-- Each operation's arm is the definition's clause of it.
 -- Assumes nothing.
 use borrow.Author.Needs.{needs}
 use Rattle.alu.specs.Operations.{operate}

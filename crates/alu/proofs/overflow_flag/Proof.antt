@@ -1,4 +1,4 @@
--- `alu::overflow_flag` meets its contract.
+-- The test of bit 4 is the definition's.
 -- Assumes nothing.
 use mathlib.Core.Path.{refl}
 use Rattle.alu.specs.Flags.{overflowFlag}

@@ -1,4 +1,4 @@
--- `alu::overflows` meets its contract.
+-- The two tests of the range are the definition's.
 -- Assumes nothing.
 use mathlib.Core.Path.{refl}
 use Rattle.alu.specs.Operations.{overflows}

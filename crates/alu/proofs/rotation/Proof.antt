@@ -1,4 +1,4 @@
--- `alu::rotation` meets its contract.
+-- Z and S are the tests of the value, and V that of the two bits 7.
 -- Assumes nothing.
 use mathlib.Core.Path.{refl}
 use Rattle.alu.specs.Operations.{rotation}

@@ -1,4 +1,4 @@
--- `alu::shift_right` meets its contract.
+-- Half of the byte with its bit 7 kept is the definition's value.
 -- Assumes nothing.
 use mathlib.Core.Path.{refl}
 use borrow.Author.Needs.{needs}

@@ -1,4 +1,4 @@
--- `alu::subtraction` meets its contract.
+-- Two wrapped differences are the difference modulo 256; C and V are the definition's tests of the unwrapped one.
 -- Assumes nothing.
 use Prim.Native.Nat.{_<_}
 use native.Mathlib.Omega.{arith}
@@ -48,7 +48,8 @@ returns c =
     let hs : second .result < 256 = omega (arith, second .ok) in
     let e = wrap-sub-8 (p .x) (p .y) (first .result) hx hy hf (first .ensures) in
     let f = wrap-sub-8 (first .result) (p .k) (second .result) hf hk hs (second .ensures) in
-    simp (c .overflows .ensures, c .before .biased2 .ensures .0, c .before .before .biased .ensures .0, f, e, wrap-sub-two-8 (p .x) (p .y) (p .k) hx hy (c .before .before .before .before .before .pre))
+    let d = wrap-sub-two-8 (p .x) (p .y) (p .k) hx hy (c .before .before .before .before .before .pre) in
+    simp (c .overflows .ensures, c .before .biased2 .ensures .0, c .before .before .biased .ensures .0, f, e, d)
 
 pub subtraction-spec : {M : Type 1} → statement M
 subtraction-spec =

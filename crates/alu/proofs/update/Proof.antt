@@ -1,4 +1,4 @@
--- `alu::update` meets its contract.
+-- A flag that is named takes its value, and any other the one that FLAGS holds.
 -- Assumes nothing.
 use borrow.Author.Needs.{needs}
 use Rattle.alu.specs.Flags.{update}
@@ -44,7 +44,9 @@ returns c = simp (c .enum-told .given .1)
 
 returns-2 : tie.Need-returns-2
 unfolding update
-returns-2 c = simp (c .flags-byte .ensures, c .before .overflow-flag .ensures, c .before .before .sign-flag .ensures, c .before .before .before .zero-flag .ensures, c .before .before .before .before .before .named .given .1)
+returns-2 c =
+    let z = c .before .before .before in
+    simp (c .flags-byte .ensures, c .before .overflow-flag .ensures, c .before .before .sign-flag .ensures, z .zero-flag .ensures, z .before .before .named .given .1)
 
 returns-3 : tie.Need-returns-3
 unfolding update

@@ -1,3 +1,4 @@
+-- A position inside gives its byte, one past the end 0, as a look-up with default 0 does.
 use denote.Ref.{now}
 use lib.ListN.{List·getD-eq-default}
 use mathlib.Core.Path.{sym}

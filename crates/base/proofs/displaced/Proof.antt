@@ -1,3 +1,4 @@
+-- An offset below 128 is added, one from 128 on with the high byte FFH, each modulo 65536.
 use borrow.Author.Tests.{lt-ltb, le-ltb}
 use borrow.Author.Needs.{needs}
 use Rattle.base.proofs.displaced.Statement.{statement}

@@ -27,14 +27,16 @@ enum-known-n c = search needs
 
 array-share-prefix-out : tie.Need-array-share-prefix-out
 array-share-prefix-out c =
-    omega (arith, judges-within (rw (c .before .n .given .1) at (c .before .before .before .before .judge-files .ensures)), c .before .before .before .before .judge-files .kept .1 .1 .0)
+    let judged = c .before .before .before .before .judge-files in
+    omega (arith, judges-within (rw (c .before .n .given .1) at (judged .ensures)), judged .kept .1 .1 .0)
 
 slice-aggregate-write-all : tie.Need-slice-aggregate-write-all
-slice-aggregate-write-all c = let after = c .before .before .before .before .before .judge-files .last .1 .1 .0 in
-    let n = c .before .before .n .given .0 .0 in
-    let h : n ≤ length after =
-    omega (arith, judges-within (rw (c .before .before .n .given .1) at (c .before .before .before .before .before .judge-files .ensures)), c .before .before .before .before .before .judge-files .kept .1 .1 .0) in
-    sym (length-take-le n after h)
+slice-aggregate-write-all c =
+    let judged = c .before .before .before .before .before .judge-files in
+    let told = c .before .before .n .given in
+    let h : told .0 .0 ≤ length (judged .last .1 .1 .0) =
+    omega (arith, judges-within (rw (told .1) at (judged .ensures)), judged .kept .1 .1 .0) in
+    sym (length-take-le (told .0 .0) (judged .last .1 .1 .0) h)
 
 write-all-requires : tie.Need-write-all-requires
 write-all-requires c κs = search needs

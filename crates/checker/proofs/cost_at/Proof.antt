@@ -1,3 +1,4 @@
+-- The cost is that of the first byte.
 use Rattle.safety.specs.Verdicts.{costAt}
 use borrow.Author.Needs.{needs}
 use Rattle.checker.proofs.cost_at.Statement.{statement}

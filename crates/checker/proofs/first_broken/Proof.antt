@@ -1,3 +1,4 @@
+-- The rules by their values, each the truth of its formula; the lowest that is broken is the definition's.
 use Rattle.checker.specs.declared.Holding.{Holding}
 use Rattle.checker.proofs.Laws.{first-by-value}
 use Rattle.safety.specs.Rules.{rule21, rule22, rule23, rule24, rule25, rule26, rule27}
@@ -36,9 +37,21 @@ lowest-requires c κs = search needs
 
 returns : tie.Need-returns
 returns c =
-    let g = c .before .before .before .before .before .before .before .before .before .args in
-    let C = certificateOf (g .cert .now) in
-    c .lowest .ensures ∙ ap (λ (h : Holding). firstBroken (tested h)) (simp (c .before .before .before .before .before .before .before .rule21 .ensures, c .before .before .before .before .before .before .rule22 .ensures, c .before .before .before .before .before .rule23 .ensures, c .before .before .before .before .rule24 .ensures, c .before .before .before .rule25 .ensures, c .before .before .rule26 .ensures, c .before .rule27 .ensures)) ∙ first-by-value C (g .a .0) (g .s) (g .next .0) (g .cost)
+    let b = c .before .before .before in
+    let d = b .before .before .before .before in
+    let g = d .before .before .args in
+    c .lowest .ensures
+    ∙ ap (λ (h : Holding). firstBroken (tested h))
+    (simp (
+      d .rule21 .ensures,
+      b .before .before .before .rule22 .ensures,
+      b .before .before .rule23 .ensures,
+      b .before .rule24 .ensures,
+      b .rule25 .ensures,
+      c .before .before .rule26 .ensures,
+      c .before .rule27 .ensures,
+    ))
+    ∙ first-by-value (certificateOf (g .cert .now)) (g .a .0) (g .s) (g .next .0) (g .cost)
 
 pub first-broken-spec : {M : Type 1} → statement M
 first-broken-spec =

@@ -1,3 +1,4 @@
+-- The scan goes on while the number is 0, and stops at the first address where it is not.
 use Rattle.safety.specs.Verdicts.{scan}
 use Rattle.checker.proofs.Laws.{scan-on, scan-stop}
 use Rattle.certificate.specs.Layout.{certificateOf}

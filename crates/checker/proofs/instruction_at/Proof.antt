@@ -1,10 +1,11 @@
+-- An instruction is located by what the decoder answers at the address, case by case.
 use Rattle.base.specs.Outcome.Outcome.{value}
 use Rattle.base.specs.Outcome.{Outcome}
 use Rattle.isa.specs.Answer.{decoded}
 use Rattle.isa.specs.declared.Instruction.{Instruction}
 use Rattle.isa.specs.declared.Decoded.{Decoded}
 use Prim.Native.Nat.{ℕ, _-_}
-use mathlib.Core.Path.{sym, ap, _∙_}
+use mathlib.Core.Path.{_≡_, sym, ap, _∙_}
 use Rattle.checker.specs.Located.{locatedIn}
 use Rattle.safety.specs.Verdicts.{summaryFrom}
 use borrow.Author.Needs.{needs}
@@ -50,29 +51,40 @@ enum-told-3 c = search needs
 no-instruction-requires-3 : tie.Need-no-instruction-requires-3
 no-instruction-requires-3 c κs = search needs
 
+-- from what the decoder answered, to what it answers by its definition
+located : (a : ℕ) {d e : Decoded} {o : Outcome (Instruction × ℕ)} → d ≡ e → decoded d ≡ o → locatedIn (decoded e) a ≡ locatedIn o a
+located a {d} {e} {o} p q =
+    ap (λ (d : Decoded). locatedIn (decoded d) a) (sym p) ∙ ap (λ (o : Outcome (Instruction × ℕ)). locatedIn o a) q
+
 returns : tie.Need-returns
 unfolding locatedIn summaryFrom
 returns c =
-    let g = c .before .before .before .before .before .before .before .before .before .args in
-    _∙_ {b = locatedIn (value (c .before .before .before .before .d .given .0 .0, c .before .before .before .before .d .given .0 .1 .0)) (g .a .0)} (simp (c .summary-of .ensures, c .before .action-of .ensures, c .before .before .wrapping-add-u16 .ensures)) (ap (λ (d : Decoded). locatedIn (decoded d) (g .a .0)) (sym (c .before .before .before .before .d .given .1)) ∙ ap (λ (o : Outcome (Instruction × ℕ)). locatedIn o (g .a .0)) (c .before .before .before .before .before .before .decode .ensures))
+    let b = c .before .before .before .before in
+    let g = b .before .before .before .before .before .args in
+    _∙_ {b = locatedIn (value (b .d .given .0 .0, b .d .given .0 .1 .0)) (g .a .0)}
+    (simp (c .summary-of .ensures, c .before .action-of .ensures, c .before .before .wrapping-add-u16 .ensures))
+    (located (g .a .0) (b .d .given .1) (b .before .before .decode .ensures))
 
 returns-2 : tie.Need-returns-2
 unfolding locatedIn summaryFrom
 returns-2 c =
-    let g = c .before .before .before .before .before .before .args in
-    c .no-instruction .ensures ∙ ap (λ (d : Decoded). locatedIn (decoded d) (g .a .0)) (sym (c .before .enum-told .given .1)) ∙ ap (λ (o : Outcome (Instruction × ℕ)). locatedIn o (g .a .0)) (c .before .before .before .decode .ensures)
+    let b = c .before .before .before in
+    let g = b .before .before .before .args in
+    c .no-instruction .ensures ∙ located (g .a .0) (c .before .enum-told .given .1) (b .decode .ensures)
 
 returns-3 : tie.Need-returns-3
 unfolding locatedIn summaryFrom
 returns-3 c =
-    let g = c .before .before .before .before .before .before .args in
-    c .no-instruction2 .ensures ∙ ap (λ (d : Decoded). locatedIn (decoded d) (g .a .0)) (sym (c .before .enum-told2 .given .1)) ∙ ap (λ (o : Outcome (Instruction × ℕ)). locatedIn o (g .a .0)) (c .before .before .before .decode .ensures)
+    let b = c .before .before .before in
+    let g = b .before .before .before .args in
+    c .no-instruction2 .ensures ∙ located (g .a .0) (c .before .enum-told2 .given .1) (b .decode .ensures)
 
 returns-4 : tie.Need-returns-4
 unfolding locatedIn summaryFrom
 returns-4 c =
-    let g = c .before .before .before .before .before .before .args in
-    c .no-instruction3 .ensures ∙ ap (λ (d : Decoded). locatedIn (decoded d) (g .a .0)) (sym (c .before .enum-told3 .given .1)) ∙ ap (λ (o : Outcome (Instruction × ℕ)). locatedIn o (g .a .0)) (c .before .before .before .decode .ensures)
+    let b = c .before .before .before in
+    let g = b .before .before .before .args in
+    c .no-instruction3 .ensures ∙ located (g .a .0) (c .before .enum-told3 .given .1) (b .decode .ensures)
 
 pub instruction-at-spec : {M : Type 1} → statement M
 instruction-at-spec =

@@ -1,3 +1,4 @@
+-- What does not decode is forbidden and one byte long.
 use Rattle.checker.specs.Located.{locatedIn}
 use Rattle.safety.specs.Verdicts.{summaryFrom}
 use borrow.Author.Needs.{needs}

@@ -1,3 +1,4 @@
+-- Where the entry names no routine the number is 0, else that of the rules at the address.
 use Rattle.entries.specs.declared.Entry.{Entry}
 use Rattle.safety.specs.Verdicts.{numberAt}
 use Rattle.certificate.specs.Layout.{certificateOf}
@@ -17,10 +18,10 @@ entry-of-requires c κs = search needs
 returns : tie.Need-returns
 unfolding numberAt
 returns c =
-    let g = c .before .before .before .before .before .before .args in
-    let C = certificateOf (g .cert .now) in
-    let a = g .a .0 in
-    rw (numberAt, eq-eqb (C .routine a) 0 (sym (ap (λ (e : Entry). e .routine) (c .before .before .entry-of .ensures ∙ c .before .before .before .entry-part .ensures .1)) ∙ c .if1 .taken))
+    let b = c .before .before in
+    let g = b .before .before .before .before .args in
+    let named = ap (λ (e : Entry). e .routine) (b .entry-of .ensures ∙ b .before .entry-part .ensures .1) in
+    rw (numberAt, eq-eqb (certificateOf (g .cert .now) .routine (g .a .0)) 0 (sym named ∙ c .if1 .taken))
 
 number-in-requires : tie.Need-number-in-requires
 number-in-requires c κs = search needs
@@ -28,10 +29,10 @@ number-in-requires c κs = search needs
 returns-2 : tie.Need-returns-2
 unfolding numberAt
 returns-2 c =
-    let g = c .before .before .before .before .before .before .before .args in
-    let C = certificateOf (g .cert .now) in
-    let a = g .a .0 in
-    rw (numberAt, ne-eqb (C .routine a) 0 (λ q. c .before .if1 .left (ap (λ (e : Entry). e .routine) (c .before .before .before .entry-of .ensures ∙ c .before .before .before .before .entry-part .ensures .1) ∙ q))) (c .number-in .ensures)
+    let b = c .before .before .before in
+    let g = b .before .before .before .before .args in
+    let named = ap (λ (e : Entry). e .routine) (b .entry-of .ensures ∙ b .before .entry-part .ensures .1) in
+    rw (numberAt, ne-eqb (certificateOf (g .cert .now) .routine (g .a .0)) 0 (λ q. c .before .if1 .left (named ∙ q))) (c .number-in .ensures)
 
 pub number-at-spec : {M : Type 1} → statement M
 number-at-spec = tie.close (tie.spec entry-part-requires entry-of-requires returns number-in-requires returns-2)

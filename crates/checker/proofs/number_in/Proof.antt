@@ -1,3 +1,4 @@
+-- The rules on the instruction at the address, with its summary, the address behind it and its cost.
 use Rattle.checker.specs.declared.Located.{Located}
 use Rattle.safety.specs.Verdicts.{rulesOn, firstBroken, summaryAt, nextAt}
 use Rattle.checker.specs.Located.{locatedIn}
@@ -22,9 +23,12 @@ unfolding locatedIn summaryAt nextAt
 returns c =
     let g = c .before .before .before .before .before .before .args in
     let C = certificateOf (g .cert .now) in
+    let image = g .image .now in
     let a = g .a .0 in
     let k = c .before .cost-at .result in
-    c .first-broken .ensures ∙ ap (λ (i : Located). firstBroken (rulesOn C a (i .summary) (i .next .0) k)) (c .before .before .before .instruction-at .ensures) ∙ ap (λ (n : ℕ). firstBroken (rulesOn C a (summaryAt (g .image .now) a) (nextAt (g .image .now) a) n)) (c .before .cost-at .ensures)
+    c .first-broken .ensures
+    ∙ ap (λ (i : Located). firstBroken (rulesOn C a (i .summary) (i .next .0) k)) (c .before .before .before .instruction-at .ensures)
+    ∙ ap (λ (n : ℕ). firstBroken (rulesOn C a (summaryAt image a) (nextAt image a) n)) (c .before .cost-at .ensures)
 
 pub number-in-spec : {M : Type 1} → statement M
 number-in-spec =

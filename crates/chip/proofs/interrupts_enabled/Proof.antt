@@ -1,5 +1,4 @@
--- `chip::interrupts_enabled` meets its contract.
--- Assumes nothing.
+-- Bit 2 of SYM's byte is the definition's test.
 use mathlib.Core.Path.{refl}
 use Rattle.chip.specs.Interrupts.{interruptsEnabled}
 use borrow.Author.Needs.{needs}

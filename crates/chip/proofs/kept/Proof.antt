@@ -1,5 +1,4 @@
--- `chip::kept` meets its contract.
--- Assumes nothing.
+-- RAM takes the byte, a register without kept bits keeps its own, any other keeps its bits of what is written.
 use borrow.Author.Tests.{lt-ltb, le-ltb, eq-eqb, ne-eqb}
 use Rattle.chip.specs.Registers.{keptOf}
 use borrow.Author.Needs.{needs}

@@ -1,5 +1,4 @@
--- `chip::kept_bits` meets its contract.
--- Assumes nothing.
+-- The kept bits are the byte that the packed word holds for the address.
 use Rattle.chip.proofs.Packed.{kept-at}
 use borrow.Author.Needs.{needs}
 use Rattle.chip.proofs.kept_bits.Statement.{statement}

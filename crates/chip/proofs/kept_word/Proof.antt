@@ -1,5 +1,4 @@
--- `chip::kept_word` meets its contract.
--- Assumes nothing.
+-- Each arm is a row of the packed words, the last one RAM's.
 use Rattle.base.specs.ChoiceLaws.{choose-miss}
 use Rattle.chip.proofs.kept_word.Statement.{statement}
 use Rattle.chip.proofs.kept_word.Tie as tie

@@ -1,5 +1,4 @@
--- `chip::load` meets its contract.
--- Assumes nothing.
+-- RAM gives its byte, the seven input addresses the record's bytes, every other address its kept bits.
 use borrow.Author.Tests.{lt-ltb, le-ltb}
 use Rattle.base.specs.ChoiceLaws.{choose-miss}
 use Rattle.chip.specs.Registers.{loadOf}

@@ -1,5 +1,4 @@
--- `chip::mapped` meets its contract.
--- Assumes nothing.
+-- RAM is mapped; above it the packed number's bit is what the definition says.
 use borrow.Author.Tests.{lt-ltb, le-ltb}
 use Rattle.chip.proofs.Packed.{mapped-at}
 use borrow.Author.Needs.{needs}

@@ -1,5 +1,4 @@
--- `chip::pending_any` meets its contract.
--- Assumes nothing.
+-- The tests of D2H and F3H, or an external source, as defined.
 use Rattle.chip.specs.Interrupts.{pendingAny}
 use borrow.Author.Needs.{needs}
 use Rattle.chip.proofs.pending_any.Statement.{statement}

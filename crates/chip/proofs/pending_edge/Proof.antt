@@ -1,5 +1,4 @@
--- `chip::pending_edge` meets its contract.
--- Assumes nothing.
+-- The two tests of E8H are the definition's.
 use mathlib.Core.Path.{refl}
 use Rattle.chip.specs.Interrupts.{pendingEdge}
 use borrow.Author.Needs.{needs}

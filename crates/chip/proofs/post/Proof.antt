@@ -1,5 +1,4 @@
--- `chip::post` meets its contract.
--- Assumes nothing.
+-- A byte without requests leaves the registers; else the five bits are raised in the definition's order.
 use Rattle.chip.specs.Interrupts.{raiseOf, postOf}
 use borrow.Author.Needs.{needs}
 use Rattle.chip.proofs.post.Statement.{statement}
@@ -26,7 +25,10 @@ raise-requires-5 c κs = search needs
 
 returns-2 : tie.Need-returns-2
 unfolding postOf
-returns-2 c = rw (c .raise5 .ensures, c .before .before .raise4 .ensures, c .before .before .before .before .raise3 .ensures, c .before .before .before .before .before .before .raise2 .ensures, c .before .before .before .before .before .before .before .before .raise .ensures)
+returns-2 c =
+    let third = c .before .before .before .before in
+    let first = third .before .before .before .before in
+    rw (c .raise5 .ensures, c .before .before .raise4 .ensures, third .raise3 .ensures, third .before .before .raise2 .ensures, first .raise .ensures)
 
 pub post-spec : {M : Type 1} → statement M
 post-spec =

@@ -1,5 +1,4 @@
--- `chip::raise` meets its contract.
--- Assumes nothing.
+-- The bits are set where the request is on; else nothing changes.
 use Rattle.chip.specs.Interrupts.{raiseOf}
 use borrow.Author.Needs.{needs}
 use Rattle.chip.proofs.raise.Statement.{statement}

@@ -1,5 +1,4 @@
--- `chip::reset_registers` meets its contract: both compute to the same list.
--- Assumes nothing.
+-- The stores over zeros and the definition compute to the same list.
 use mathlib.Core.Path.{refl}
 use Rattle.chip.specs.Reset.{resetRegisters}
 use borrow.Author.Needs.{needs}

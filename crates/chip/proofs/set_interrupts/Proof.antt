@@ -1,5 +1,4 @@
--- `chip::set_interrupts` meets its contract.
--- Assumes nothing.
+-- The byte that is written is what a store of SYM's one kept bit leaves.
 use Rattle.chip.specs.Registers.{keptBits, writtenOf, keptOf, storeOf}
 use Rattle.chip.specs.Interrupts.{setInterruptsOf}
 use borrow.Author.Needs.{needs}

@@ -1,5 +1,4 @@
--- `chip::store` meets its contract.
--- Assumes nothing.
+-- The one byte that changes is what `kept` leaves of it.
 use Rattle.chip.specs.Registers.{storeOf}
 use borrow.Author.Needs.{needs}
 use Rattle.chip.proofs.store.Statement.{statement}

@@ -1,5 +1,4 @@
--- `chip::written` meets its contract.
--- Assumes nothing.
+-- Each of the four special rows gives its formula, every other address the byte itself.
 use Rattle.base.specs.ChoiceLaws.{choose-miss}
 use Rattle.chip.specs.Registers.{writtenOf}
 use borrow.Author.Needs.{needs}

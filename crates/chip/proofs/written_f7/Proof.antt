@@ -1,5 +1,4 @@
--- `chip::written_f7` meets its contract.
--- Assumes nothing.
+-- Bit 3 is cleared where 1 is written to bit 0, else it stays: the definition's two cases.
 use borrow.Author.Tests.{eq-eqb, ne-eqb}
 use Rattle.chip.proofs.written_f7.Statement.{statement}
 use Rattle.chip.proofs.written_f7.Tie as tie

@@ -1,3 +1,4 @@
+-- Every value below the loop counter that is left lies in the range; the search stops at the first that does not, or behind the high end.
 use Rattle.base.specs.Formula.{le?}
 use mathlib.Core.Logic.{⊎-elim}
 use Rattle.claims.specs.Values.{among, staysWithin, allWithin}
@@ -36,10 +37,10 @@ stays-requires c κs = search needs
 returns : tie.Need-returns Inv-loop μ-loop
 unfolding among allWithin
 returns c =
-    let s = c .before .before .before .before .before .before .args .s in
-    let l = c .before .before .before .before .before .before .args .l in
-    let h = c .before .before .before .before .before .before .args .h in
-    decide-no (allWithin s l h) (λ f. decide-false (staysWithin s l h (c .before .before .before .loop .v)) (c .before .stays .ensures) (not-true _ (c .if1 .taken)) (f (c .before .before .before .loop .v) (omega arith)))
+    let g = c .before .before .before .before .before .before .args in
+    let v = c .before .before .before .loop .v in
+    let fails = decide-false (staysWithin (g .s) (g .l) (g .h) v) (c .before .stays .ensures) (not-true _ (c .if1 .taken)) in
+    decide-no (allWithin (g .s) (g .l) (g .h)) (λ f. fails (f v (omega arith)))
 
 add-v : tie.Need-add-v Inv-loop μ-loop
 add-v c = omega arith
@@ -49,18 +50,20 @@ loop-less c = omega arith
 
 loop-again : tie.Need-loop-again Inv-loop μ-loop
 loop-again c =
-    let s = c .before .before .before .before .before .before .args .s in
-    let l = c .before .before .before .before .before .before .args .l in
-    let h = c .before .before .before .before .before .before .args .h in
-    (omega arith, c .before .before .before .loop .inv .1, below-more _ _ (c .before .before .before .loop .inv .2) (decide-true (staysWithin s l h (c .before .before .before .loop .v)) (c .before .stays .ensures) (not-false _ (c .if1 .left))))
+    let g = c .before .before .before .before .before .before .args in
+    let turn = c .before .before .before .loop in
+    let here = decide-true (staysWithin (g .s) (g .l) (g .h) (turn .v)) (c .before .stays .ensures) (not-false _ (c .if1 .left)) in
+    (omega arith, turn .inv .1, below-more _ _ (turn .inv .2) here)
 
 returns-2 : tie.Need-returns-2 Inv-loop μ-loop
 unfolding among allWithin
 returns-2 c =
-    let s = c .before .before .before .before .args .s in
-    let l = c .before .before .before .before .args .l in
-    let h = c .before .before .before .before .args .h in
-    decide-yes (allWithin s l h) (λ x hx. ⊎-elim (λ (q : c .before .loop .v ≤ x) m. absurd (omega (arith, m .1 .0))) (λ (q : x < c .before .loop .v). c .before .loop .inv .2 x q) (le? (c .before .loop .v) x))
+    let g = c .before .before .before .before .args in
+    let turn = c .before .loop in
+    decide-yes (allWithin (g .s) (g .l) (g .h))
+    (λ x hx.
+    ⊎-elim (λ (q : turn .v ≤ x) m. absurd (omega (arith, m .1 .0))) (λ (q : x < turn .v). turn .inv .2 x q)
+    (le? (turn .v) x))
 
 pub all-within-spec : {M : Type 1} → statement M
 all-within-spec =

@@ -1,5 +1,5 @@
+-- B and M times the distance; the product of two bytes fits.
 use Rattle.claims.proofs.Laws.{product}
-use Prim.Native.Nat.{_-_}
 use native.Mathlib.Omega.{arith}
 use Rattle.claims.specs.Bounds.{boundFrom}
 use borrow.Author.Needs.{needs}

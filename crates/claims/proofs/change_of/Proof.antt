@@ -1,3 +1,4 @@
+-- What a write leaves in a cell: one return for each form of write, with the test that decides whether the cell is written.
 use Rattle.certificate.specs.declared.NewValue.the-variants.{Unknown}
 use Rattle.safety.specs.Rules as rules
 use Rattle.base.specs.Choice.{pick}
@@ -42,17 +43,21 @@ changed-if-requires-3 : tie.Need-changed-if-requires-3
 changed-if-requires-3 c κs = search needs
 
 returns : tie.Need-returns
-returns c = search needs
+returns c C a q = simp (c .enum-told .given .1)
 
 returns-2 : tie.Need-returns-2
-returns-2 c = simp (c .changed-if .ensures, change-pick, c .before .before .before .before .w .given .1)
+returns-2 c C a q = simp (c .changed-if .ensures, change-pick, c .before .before .before .before .w .given .1)
 
 returns-3 : tie.Need-returns-3
-returns-3 c =
-    simp (c .changed-if2 .ensures, change-pick, c .before .before .before .w2 .given .1) (ap (λ (b : Bool). pick {A = rules.Change} b (rules.Change.changed Unknown) rules.Change.unchanged) (c .before .pointed-at .ensures))
+returns-3 c C a q =
+    simp (c .changed-if2 .ensures, change-pick, c .before .before .before .w2 .given .1)
+    (ap (λ (b : Bool). pick {A = rules.Change} b (rules.Change.changed Unknown) rules.Change.unchanged)
+    (c .before .pointed-at .ensures C a q))
 
 returns-4 : tie.Need-returns-4
-returns-4 c = simp (c .changed-if3 .ensures, change-pick, c .before .before .before .before .before .before .before .before .w3 .given .1)
+returns-4 c C a q =
+    let b = c .before .before .before .before in
+    simp (c .changed-if3 .ensures, change-pick, b .before .before .before .before .w3 .given .1)
 
 pub change-of-spec : {M : Type 1} → statement M
 change-of-spec =

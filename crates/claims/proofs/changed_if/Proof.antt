@@ -1,3 +1,4 @@
+-- A change by its test.
 use borrow.Author.Needs.{needs}
 use Rattle.claims.proofs.changed_if.Statement.{statement}
 use Rattle.claims.proofs.changed_if.Tie as tie

@@ -1,3 +1,4 @@
+-- The distance by direction: to the high end, to the low end, or none.
 use borrow.Author.Tests.{eq-eqb, ne-eqb}
 use borrow.Author.Needs.{needs}
 use Rattle.claims.proofs.distance.Statement.{statement}

@@ -1,3 +1,4 @@
+-- A value is left if it lies in the range and meets the condition where the cell is narrowed.
 use Rattle.claims.specs.Values.{among}
 use borrow.Author.Needs.{needs}
 use Rattle.claims.proofs.has.Statement.{statement}

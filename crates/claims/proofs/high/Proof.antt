@@ -1,5 +1,5 @@
-use Rattle.claims.specs.Values.{highIn}
-use Rattle.safety.specs.Rules.{high}
+-- The high end of a cell's range at an address is that of the address's entry.
+use mathlib.Core.Path.{_∙_}
 use borrow.Author.Needs.{needs}
 use Rattle.claims.proofs.high.Statement.{statement}
 use Rattle.claims.proofs.high.Tie as tie
@@ -14,8 +14,7 @@ high-in-requires : tie.Need-high-in-requires
 high-in-requires c κs = search needs
 
 returns : tie.Need-returns
-unfolding high highIn
-returns c = simp (c .high-in .ensures, c .before .entry-of .ensures, c .before .before .entry-part .ensures .1)
+returns c = c .high-in .ensures _ _ (c .before .entry-of .ensures ∙ c .before .before .entry-part .ensures .1)
 
 pub high-spec : {M : Type 1} → statement M
 high-spec = tie.close (tie.spec entry-part-requires entry-of-requires high-in-requires returns)

@@ -1,5 +1,5 @@
-use Rattle.claims.specs.Values.{lowIn}
-use Rattle.safety.specs.Rules.{low}
+-- The low end of a cell's range at an address is that of the address's entry.
+use mathlib.Core.Path.{_∙_}
 use borrow.Author.Needs.{needs}
 use Rattle.claims.proofs.low.Statement.{statement}
 use Rattle.claims.proofs.low.Tie as tie
@@ -14,8 +14,7 @@ low-in-requires : tie.Need-low-in-requires
 low-in-requires c κs = search needs
 
 returns : tie.Need-returns
-unfolding low lowIn
-returns c = simp (c .low-in .ensures, c .before .entry-of .ensures, c .before .before .entry-part .ensures .1)
+returns c = c .low-in .ensures _ _ (c .before .entry-of .ensures ∙ c .before .before .entry-part .ensures .1)
 
 pub low-spec : {M : Type 1} → statement M
 low-spec = tie.close (tie.spec entry-part-requires entry-of-requires low-in-requires returns)

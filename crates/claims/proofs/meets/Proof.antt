@@ -1,3 +1,4 @@
+-- The condition, or its opposite, by the edge.
 use borrow.Author.Needs.{needs}
 use Rattle.claims.proofs.meets.Statement.{statement}
 use Rattle.claims.proofs.meets.Tie as tie

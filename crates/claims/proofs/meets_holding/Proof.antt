@@ -1,5 +1,9 @@
-use Rattle.safety.specs.Rules.{meets}
-use borrow.Author.Tests.{ne-eqb}
+-- Each of the six conditions that compare unsigned has its arm; any other says nothing.
+use Rattle.safety.specs.Rules.{told, meets}
+use Rattle.base.specs.ChoiceLaws.{choose-miss}
+use Rattle.base.specs.Formula.{decide, always}
+use mathlib.Core.Path.{sym, ap}
+use mathlib.Core.Bool.{true}
 use Rattle.claims.proofs.meets_holding.Statement.{statement}
 use Rattle.claims.proofs.meets_holding.Tie as tie
 
@@ -29,7 +33,9 @@ returns-6 c = simp (c .match .keys6)
 
 returns-7 : tie.Need-returns-7
 unfolding meets
-returns-7 c = simp (ne-eqb _ _ (c .match .rest .1), ne-eqb _ _ (c .match .rest .0 .1), ne-eqb _ _ (c .match .rest .0 .0 .1), ne-eqb _ _ (c .match .rest .0 .0 .0 .1), ne-eqb _ _ (c .match .rest .0 .0 .0 .0 .1), ne-eqb _ _ (c .match .rest .0 .0 .0 .0 .0 .1))
+returns-7 c =
+    let g = c .before .args in
+    sym (ap decide (choose-miss (g .cc) (told true (g .v) (g .k)) always (c .match .rest)))
 
 pub meets-holding-spec : {M : Type 1} → statement M
 meets-holding-spec =

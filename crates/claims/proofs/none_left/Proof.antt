@@ -1,4 +1,4 @@
-use Rattle.claims.specs.Values.{among, noneAmong}
+-- No value below the loop counter is left; the search starts at the low end and stops at the first value that is left, or behind the high end.
 use mathlib.Core.Logic.{⊎-elim}
 use Rattle.base.specs.Formula.{neg, le?}
 use Rattle.claims.specs.Values.{among, noneAmong}
@@ -37,7 +37,9 @@ returns : tie.Need-returns Inv-loop μ-loop
 unfolding among noneAmong
 returns c =
     let s = c .before .before .before .before .before .before .args .s in
-    decide-no (noneAmong s) (λ f. f (c .before .before .before .loop .v) (omega arith) (decide-true (among s (c .before .before .before .loop .v)) (c .before .has .ensures) (c .if1 .taken)))
+    let v = c .before .before .before .loop .v in
+    let found = decide-true (among s v) (c .before .has .ensures) (c .if1 .taken) in
+    decide-no (noneAmong s) (λ f. f v (omega arith) found)
 
 add-v : tie.Need-add-v Inv-loop μ-loop
 add-v c = omega arith
@@ -48,13 +50,19 @@ loop-less c = omega arith
 loop-again : tie.Need-loop-again Inv-loop μ-loop
 loop-again c =
     let s = c .before .before .before .before .before .before .args .s in
-    (omega arith, c .before .before .before .loop .inv .1, below-more _ _ (c .before .before .before .loop .inv .2) (decide-false (among s (c .before .before .before .loop .v)) (c .before .has .ensures) (c .if1 .left)))
+    let turn = c .before .before .before .loop in
+    let here = decide-false (among s (turn .v)) (c .before .has .ensures) (c .if1 .left) in
+    (omega arith, turn .inv .1, below-more _ _ (turn .inv .2) here)
 
 returns-2 : tie.Need-returns-2 Inv-loop μ-loop
 unfolding among noneAmong
 returns-2 c =
     let s = c .before .before .before .before .args .s in
-    decide-yes (noneAmong s) (λ x hx. ⊎-elim (λ (q : c .before .loop .v ≤ x) m. absurd (omega (arith, m .1 .0))) (λ (q : x < c .before .loop .v). c .before .loop .inv .2 x q) (le? (c .before .loop .v) x))
+    let turn = c .before .loop in
+    decide-yes (noneAmong s)
+    (λ x hx.
+    ⊎-elim (λ (q : turn .v ≤ x) m. absurd (omega (arith, m .1 .0))) (λ (q : x < turn .v). turn .inv .2 x q)
+    (le? (turn .v) x))
 
 pub none-left-spec : {M : Type 1} → statement M
 none-left-spec =

@@ -1,3 +1,4 @@
+-- A value stays in the range if it is not left or lies between the ends.
 use borrow.Author.Needs.{needs}
 use Rattle.claims.proofs.stays.Statement.{statement}
 use Rattle.claims.proofs.stays.Tie as tie

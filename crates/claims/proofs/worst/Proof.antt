@@ -1,6 +1,5 @@
+-- B alone without a direction, else B and M times the claim width; the product of two bytes fits.
 use Rattle.claims.proofs.Laws.{product}
-use Prim.Native.Nat.{_-_}
-use borrow.Author.Tests.{eq-eqb, ne-eqb}
 use native.Mathlib.Omega.{arith}
 use Rattle.claims.specs.Bounds.{worstFrom}
 use borrow.Author.Tests.{eq-eqb, ne-eqb}

@@ -1,3 +1,5 @@
+-- An even address is coded, an odd one is 12.
+-- Assumes nothing.
 use Prim.Native.Nat.{_%_}
 use mathlib.Core.Path.{_≡_}
 use native.Mathlib.Omega.{arith}

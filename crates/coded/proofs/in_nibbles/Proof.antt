@@ -1,3 +1,5 @@
+-- What the two nibbles give, a byte or 8, is carried behind the opcode.
+-- Assumes nothing.
 use borrow.Author.Needs.{needs}
 use Rattle.coded.proofs.in_nibbles.Statement.{statement}
 use Rattle.coded.proofs.in_nibbles.Tie as tie

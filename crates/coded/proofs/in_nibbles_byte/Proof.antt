@@ -1,3 +1,5 @@
+-- What the two nibbles give, a byte or 8, is carried between the opcode and the last byte.
+-- Assumes nothing.
 use borrow.Author.Needs.{needs}
 use Rattle.coded.proofs.in_nibbles_byte.Statement.{statement}
 use Rattle.coded.proofs.in_nibbles_byte.Tie as tie

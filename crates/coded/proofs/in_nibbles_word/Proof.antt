@@ -1,3 +1,5 @@
+-- What the two nibbles give, a byte or 8, is carried between the opcode and the two halves.
+-- Assumes nothing.
 use borrow.Author.Needs.{needs}
 use Rattle.coded.proofs.in_nibbles_word.Statement.{statement}
 use Rattle.coded.proofs.in_nibbles_word.Tie as tie

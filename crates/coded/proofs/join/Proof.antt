@@ -1,3 +1,5 @@
+-- Both halves below 16 make the byte; either above is 8.
+-- Assumes nothing.
 use borrow.Author.Tests.{lt-ltb, le-ltb}
 use borrow.Author.Needs.{needs}
 use Rattle.coded.proofs.join.Statement.{statement}

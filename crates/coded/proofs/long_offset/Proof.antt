@@ -1,3 +1,5 @@
+-- Pair 0 or 1 is 8; on any other the offset is coded behind the nibbles.
+-- Assumes nothing.
 use Prim.Native.Nat.{_<_, _≤_}
 use native.Mathlib.Omega.{arith}
 use borrow.Author.Tests.{lt-ltb, le-ltb}

@@ -1,3 +1,5 @@
+-- The row's operation, or none, tells which cells the columns 2 to 6 hold.
+-- Assumes nothing.
 use mathlib.Core.Path.{sym, _∙_}
 use borrow.Author.Needs.{needs}
 use Rattle.columns.proofs.alu_column.Statement.{statement}

@@ -1,3 +1,5 @@
+-- Each arm is the form of that column's cell, the last one column 6's.
+-- Assumes nothing.
 use borrow.Author.Tests.{ne-eqb}
 use Rattle.columns.proofs.alu_form.Statement.{statement}
 use Rattle.columns.proofs.alu_form.Tie as tie

@@ -1,3 +1,5 @@
+-- Each arm is the entry of that row in the list of operations; the rest are in no entry.
+-- Assumes nothing.
 use Rattle.isa.specs.declared.AluRow.{AluRow}
 use Rattle.isa.specs.Map.{aluRows}
 use mathlib.Core.Path.{sym}

@@ -1,3 +1,5 @@
+-- CALL through a pair: an even pair is the call, an odd one is 12.
+-- Assumes nothing.
 use borrow.Author.Tests.{eq-eqb, ne-eqb}
 use Rattle.columns.proofs.call_at.Statement.{statement}
 use Rattle.columns.proofs.call_at.Tie as tie

@@ -1,3 +1,5 @@
+-- JP through a pair: an even pair is the jump, an odd one is 12.
+-- Assumes nothing.
 use borrow.Author.Tests.{eq-eqb, ne-eqb}
 use Rattle.columns.proofs.jump_at.Statement.{statement}
 use Rattle.columns.proofs.jump_at.Tie as tie

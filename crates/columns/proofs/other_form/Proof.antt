@@ -1,7 +1,20 @@
+-- Each arm of column and row is that cell's form, and where the row has none the cell is empty.
+-- Assumes nothing.
+use mathlib.Core.Path.{_≡_}
+use mathlib.Core.List.{[], _∷_}
 use borrow.Author.Tests.{ne-eqb}
 use borrow.Author.Needs.{needs}
+use Rattle.base.specs.Choice.{choose}
+use Rattle.isa.specs.Map.{otherCell}
+use Rattle.isa.specs.Map.Cell.{empty, loadAtImm, loadImm, call}
 use Rattle.columns.proofs.other_form.Statement.{statement}
 use Rattle.columns.proofs.other_form.Tie as tie
+
+-- column 6: the low nibble is none of 2 to 5
+column6 : (c : tie.At-match-rest)
+    → otherCell (c .before .args .low) (c .before .args .row)
+    ≡ choose (c .before .args .row) ((13, loadAtImm) ∷ (14, loadImm) ∷ (15, call) ∷ []) empty
+column6 c = let m = c .match .rest in simp (ne-eqb _ _ (m .1), ne-eqb _ _ (m .0 .1), ne-eqb _ _ (m .0 .0 .1), ne-eqb _ _ (m .0 .0 .0 .1))
 
 call-at-requires : tie.Need-call-at-requires
 call-at-requires c κs = search needs
@@ -49,16 +62,16 @@ returns-12 : tie.Need-returns-12
 returns-12 c = rw (c .before .match .keys4) (simp (ne-eqb _ _ (c .match5 .rest .1), ne-eqb _ _ (c .match5 .rest .0 .1)))
 
 returns-13 : tie.Need-returns-13
-returns-13 c = let m = c .before .match .rest in simp (ne-eqb _ _ (m .1), ne-eqb _ _ (m .0 .1), ne-eqb _ _ (m .0 .0 .1), ne-eqb _ _ (m .0 .0 .0 .1), c .match6 .keys1)
+returns-13 c = rw (column6 (c .before), c .match6 .keys1)
 
 returns-14 : tie.Need-returns-14
-returns-14 c = let m = c .before .match .rest in simp (ne-eqb _ _ (m .1), ne-eqb _ _ (m .0 .1), ne-eqb _ _ (m .0 .0 .1), ne-eqb _ _ (m .0 .0 .0 .1), c .match6 .keys2)
+returns-14 c = rw (column6 (c .before), c .match6 .keys2)
 
 returns-15 : tie.Need-returns-15
-returns-15 c = let m = c .before .match .rest in simp (ne-eqb _ _ (m .1), ne-eqb _ _ (m .0 .1), ne-eqb _ _ (m .0 .0 .1), ne-eqb _ _ (m .0 .0 .0 .1), c .match6 .keys3)
+returns-15 c = rw (column6 (c .before), c .match6 .keys3)
 
 returns-16 : tie.Need-returns-16
-returns-16 c = let m = c .before .match .rest in let n = c .match6 .rest in simp (ne-eqb _ _ (m .1), ne-eqb _ _ (m .0 .1), ne-eqb _ _ (m .0 .0 .1), ne-eqb _ _ (m .0 .0 .0 .1), ne-eqb _ _ (n .1), ne-eqb _ _ (n .0 .1), ne-eqb _ _ (n .0 .0 .1))
+returns-16 c = let n = c .match6 .rest in rw (column6 (c .before)) (simp (ne-eqb _ _ (n .1), ne-eqb _ _ (n .0 .1), ne-eqb _ _ (n .0 .0 .1)))
 
 pub other-form-spec : {M : Type 1} → statement M
 other-form-spec =

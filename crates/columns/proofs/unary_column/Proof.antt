@@ -1,3 +1,5 @@
+-- What the row holds and the test of the column tell the cell; row 3 is JP in column 0 alone.
+-- Assumes nothing.
 use borrow.Author.Tests.{eq-eqb, ne-eqb}
 use mathlib.Core.Path.{sym, _∙_}
 use borrow.Author.Needs.{needs}
@@ -41,10 +43,15 @@ returns-6 : tie.Need-returns-6
 returns-6 c = rw (sym (c .before .before .before .unary-row .ensures) ∙ c .before .enum-told2 .given .1, ne-eqb _ _ (c .if3 .left))
 
 returns-7 : tie.Need-returns-7
-returns-7 c = rw (sym (c .before .before .before .before .before .unary-row .ensures) ∙ c .before .before .before .enum-told3 .given .1, eq-eqb _ _ (c .before .before .if4 .taken), eq-eqb _ _ (c .before .if5 .taken)) (c .jump-at .ensures)
+returns-7 c =
+    let other = c .before .before .before in
+    rw (sym (other .before .before .unary-row .ensures) ∙ other .enum-told3 .given .1, eq-eqb _ _ (c .before .before .if4 .taken), eq-eqb _ _ (c .before .if5 .taken))
+    (c .jump-at .ensures)
 
 returns-8 : tie.Need-returns-8
-returns-8 c = rw (sym (c .before .before .before .before .unary-row .ensures) ∙ c .before .before .enum-told3 .given .1, eq-eqb _ _ (c .before .if4 .taken), ne-eqb _ _ (c .if5 .left))
+returns-8 c =
+    let other = c .before .before in
+    rw (sym (other .before .before .unary-row .ensures) ∙ other .enum-told3 .given .1, eq-eqb _ _ (c .before .if4 .taken), ne-eqb _ _ (c .if5 .left))
 
 returns-9 : tie.Need-returns-9
 returns-9 c = rw (sym (c .before .before .before .unary-row .ensures) ∙ c .before .enum-told3 .given .1, ne-eqb _ _ (c .if4 .left))

@@ -1,3 +1,5 @@
+-- Each arm is the entry of that row in the list of columns 0 and 1; the rest are in no entry.
+-- Assumes nothing.
 use Rattle.isa.specs.declared.UnaryRow.{UnaryRow}
 use Rattle.isa.specs.Map.{unaryRows}
 use mathlib.Core.Path.{sym}

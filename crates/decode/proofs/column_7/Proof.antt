@@ -1,3 +1,5 @@
+-- Each arm is the form of column 7's cell in that row; the rest are empty.
+-- Assumes nothing.
 use Rattle.columns.specs.Form.{formOf}
 use Rattle.isa.specs.Map.Cell.{empty}
 use Rattle.isa.specs.Map.{Cell, column7Rows}

@@ -1,3 +1,5 @@
+-- An operation of column F is its instruction of one byte; a row without one is 11.
+-- Assumes nothing.
 use borrow.Author.Needs.{needs}
 use Rattle.decode.proofs.column_f.Statement.{statement}
 use Rattle.decode.proofs.column_f.Tie as tie

@@ -1,3 +1,5 @@
+-- The two tests of the length are the definition's cases of 10; behind them the form has the slice's bytes, 0 past its end.
+-- Assumes nothing.
 use Rattle.decode.specs.Decode.{decodeAt}
 use borrow.Author.Tests.{lt-ltb, le-ltb, le-leb, lt-leb}
 use borrow.Author.Needs.{needs}
@@ -47,13 +49,15 @@ form-requires c κs = search needs
 
 returns-3 : tie.Need-returns-3
 unfolding decodeAt
-returns-3 c = rw (
-  lt-ltb _ _ (c .before .before .before .before .before .before .before .if1 .left),
-  le-leb _ _ (rw (c .before .before .before .before .before .length .ensures) at (c .before .before .before .before .if2 .left)),
-  ← c .before .before .before .byte-at .ensures,
-  ← c .before .before .byte-at2 .ensures,
-  ← c .before .byte-at3 .ensures,
-)
+returns-3 c =
+    let room = c .before .before .before .before in
+    rw (
+      lt-ltb _ _ (room .before .before .before .if1 .left),
+      le-leb _ _ (rw (room .before .length .ensures) at (room .if2 .left)),
+      ← c .before .before .before .byte-at .ensures,
+      ← c .before .before .byte-at2 .ensures,
+      ← c .before .byte-at3 .ensures,
+    )
     (c .form .ensures)
 
 pub decode-spec : {M : Type 1} → statement M

@@ -1,3 +1,5 @@
+-- The ranges of the low nibble are the map's tests of the column, in its order.
+-- Assumes nothing.
 use Prim.Native.Nat.{_≤_, _%_}
 use native.Mathlib.Omega.{arith}
 use borrow.Author.Tests.{lt-ltb, le-ltb}
@@ -30,10 +32,16 @@ returns-3 : tie.Need-returns-3
 returns-3 c = rw (le-ltb _ _ (c .before .before .if1 .left), lt-ltb _ _ (c .before .if2 .taken)) (c .alu-column .ensures)
 
 returns-4 : tie.Need-returns-4
-returns-4 c = let a = c .before .before .before .before .before .args in let h : 8 ≤ a .first % 16 = omega arith in rw (le-ltb _ _ (c .before .before .before .if1 .left), le-ltb _ _ (c .before .before .if2 .left), le-ltb _ _ h, lt-ltb _ _ (c .before .if3 .taken)) (c .row-column .ensures)
+returns-4 c =
+    let past = c .before .before in
+    let h : 8 ≤ past .before .before .before .args .first % 16 = omega arith in
+    rw (le-ltb _ _ (past .before .if1 .left), le-ltb _ _ (past .if2 .left), le-ltb _ _ h, lt-ltb _ _ (c .before .if3 .taken)) (c .row-column .ensures)
 
 returns-5 : tie.Need-returns-5
-returns-5 c = let a = c .before .before .before .before .before .args in let h : 8 ≤ a .first % 16 = omega arith in rw (le-ltb _ _ (c .before .before .before .if1 .left), le-ltb _ _ (c .before .before .if2 .left), le-ltb _ _ h, le-ltb _ _ (c .before .if3 .left)) (c .column-f .ensures)
+returns-5 c =
+    let past = c .before .before in
+    let h : 8 ≤ past .before .before .before .args .first % 16 = omega arith in
+    rw (le-ltb _ _ (past .before .if1 .left), le-ltb _ _ (past .if2 .left), le-ltb _ _ h, le-ltb _ _ (c .before .if3 .left)) (c .column-f .ensures)
 
 pub form-spec : {M : Type 1} → statement M
 form-spec =

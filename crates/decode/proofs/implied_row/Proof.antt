@@ -1,3 +1,5 @@
+-- Each arm is column F's cell in that row; the rest are empty.
+-- Assumes nothing.
 use Rattle.isa.specs.Map.Cell.{empty}
 use Rattle.isa.specs.Map.{columnFRows}
 use mathlib.Core.Path.{sym}

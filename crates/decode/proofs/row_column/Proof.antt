@@ -1,3 +1,5 @@
+-- Each arm is the form of that column's cell, the same in every row; the last one is column E's.
+-- Assumes nothing.
 use Rattle.columns.specs.Form.{formOf}
 use Rattle.isa.specs.Map.Cell.{incWork}
 use Rattle.isa.specs.Map.{Cell, rowColumns}

@@ -1,3 +1,5 @@
+-- Each form's number is the definition's clause of that form.
+-- Assumes nothing.
 use borrow.Author.Needs.{needs}
 use Rattle.encode.proofs.size_of.Statement.{statement}
 use Rattle.encode.proofs.size_of.Tie as tie

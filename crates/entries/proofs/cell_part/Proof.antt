@@ -1,3 +1,4 @@
+-- A register's part is 3 bytes from E000H on.
 use lib.Seq.{drop-drop}
 use native.Mathlib.Omega.{arith}
 use Rattle.certificate.specs.Layout.{part}

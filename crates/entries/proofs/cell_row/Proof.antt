@@ -1,3 +1,4 @@
+-- The three bytes of a register's part are its row's fields.
 use Rattle.certificate.specs.Layout.{certificateOf, certificateFrom}
 use borrow.Author.Needs.{needs}
 use Rattle.entries.proofs.cell_row.Statement.{statement}

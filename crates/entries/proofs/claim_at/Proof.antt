@@ -1,3 +1,4 @@
+-- Three bytes from i on are the fields of a claim.
 use borrow.Author.Needs.{needs}
 use Rattle.entries.proofs.claim_at.Statement.{statement}
 use Rattle.entries.proofs.claim_at.Tie as tie

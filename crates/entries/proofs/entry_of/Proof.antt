@@ -1,3 +1,4 @@
+-- The 14 bytes of an entry's part are its fields.
 use Rattle.entries.specs.Fields.{entryFrom}
 use borrow.Author.Needs.{needs}
 use Rattle.entries.proofs.entry_of.Statement.{statement}
@@ -32,7 +33,19 @@ byte-at-requires-6 c κs = search needs
 
 returns : tie.Need-returns
 unfolding entryFrom
-returns c = simp (c .byte-at6 .ensures, c .before .byte-at5 .ensures, c .before .before .claim-at2 .ensures, c .before .before .before .claim-at .ensures, c .before .before .before .before .byte-at4 .ensures, c .before .before .before .before .before .byte-at3 .ensures, c .before .before .before .before .before .before .word-at .ensures, c .before .before .before .before .before .before .before .byte-at2 .ensures, c .before .before .before .before .before .before .before .before .byte-at .ensures)
+returns c =
+    let b = c .before .before .before .before in
+    simp (
+      c .byte-at6 .ensures,
+      c .before .byte-at5 .ensures,
+      c .before .before .claim-at2 .ensures,
+      c .before .before .before .claim-at .ensures,
+      b .byte-at4 .ensures,
+      b .before .byte-at3 .ensures,
+      b .before .before .word-at .ensures,
+      b .before .before .before .byte-at2 .ensures,
+      b .before .before .before .before .byte-at .ensures,
+    )
 
 pub entry-of-spec : {M : Type 1} → statement M
 entry-of-spec =

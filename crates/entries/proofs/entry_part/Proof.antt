@@ -1,3 +1,4 @@
+-- Within ROM the part is the 14 bytes at 14 × address, past it empty; its fields are the certificate's.
 use Rattle.certificate.specs.Layout.{part}
 use Rattle.entries.proofs.Pieces.{with-fields}
 use borrow.Author.Tests.{lt-ltb, le-ltb}

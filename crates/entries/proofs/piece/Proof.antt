@@ -1,3 +1,4 @@
+-- A piece is empty past the end, cut off at the end, or as long as asked.
 use Rattle.entries.proofs.Pieces.{piece-to-end}
 use native.Mathlib.Omega.{arith}
 use lib.Seq.{take-nil}

@@ -1,3 +1,4 @@
+-- The six bytes of a routine's part are its row's fields.
 use Rattle.certificate.specs.Layout.{certificateOf, certificateFrom}
 use borrow.Author.Needs.{needs}
 use Rattle.entries.proofs.routine_row.Statement.{statement}
@@ -20,7 +21,15 @@ word-at-requires-2 c κs = search needs
 
 returns : tie.Need-returns
 unfolding certificateOf certificateFrom
-returns c = simp (c .word-at2 .ensures, c .before .byte-at2 .ensures, c .before .before .byte-at .ensures, c .before .before .before .word-at .ensures, c .before .before .before .before .row-part .ensures)
+returns c =
+    let b = c .before .before in
+    simp (
+      c .word-at2 .ensures,
+      c .before .byte-at2 .ensures,
+      b .byte-at .ensures,
+      b .before .word-at .ensures,
+      b .before .before .row-part .ensures,
+    )
 
 pub routine-row-spec : {M : Type 1} → statement M
 routine-row-spec =

@@ -1,3 +1,4 @@
+-- Of a routine that has a row the part is 6 bytes from E300H on; past them it is empty.
 use lib.Seq.{drop-drop}
 use Rattle.certificate.specs.Layout.{part}
 use borrow.Author.Tests.{lt-ltb, le-ltb}

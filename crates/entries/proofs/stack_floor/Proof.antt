@@ -1,3 +1,4 @@
+-- The byte at E480H is the certificate's floor.
 use Rattle.certificate.specs.Layout.{certificateOf, certificateFrom}
 use borrow.Author.Needs.{needs}
 use Rattle.entries.proofs.stack_floor.Statement.{statement}

@@ -1,3 +1,4 @@
+-- The byte at E481H is the certificate's top.
 use Rattle.certificate.specs.Layout.{certificateOf, certificateFrom}
 use borrow.Author.Needs.{needs}
 use Rattle.entries.proofs.stack_top.Statement.{statement}

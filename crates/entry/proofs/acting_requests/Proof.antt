@@ -1,3 +1,4 @@
+-- All requests act but in STOP, where bits 2 and 3 alone do.
 use Rattle.semantics.specs.Step.{actingRequests}
 use borrow.Author.Needs.{needs}
 use Rattle.entry.proofs.acting_requests.Statement.{statement}

@@ -1,3 +1,4 @@
+-- The cost is added to the cycle total modulo 2^32.
 use borrow.Author.Needs.{needs}
 use Rattle.entry.proofs.core_after.Statement.{statement}
 use Rattle.entry.proofs.core_after.Tie as tie

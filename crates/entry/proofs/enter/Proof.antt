@@ -1,3 +1,4 @@
+-- An entry: address and FLAGS pushed in this order, SYM.2 cleared, then the vector; refused where a push was not mapped.
 use Rattle.semantics.specs.Step.{enterOf}
 use borrow.Author.Needs.{needs}
 use Rattle.entry.proofs.enter.Statement.{statement}
@@ -35,10 +36,24 @@ finish-requires c κs = search needs
 
 returns : tie.Need-returns
 unfolding enterOf
-returns c = (
-  simp (c .before .before .before .before .before .set-interrupts .ensures, c .before .before .before .before .before .before .before .push .ensures .0, c .before .before .before .before .before .before .before .before .before .kept-flags .ensures, c .before .before .before .before .before .before .before .before .before .before .before .push-address .ensures .0),
-  simp (c .finish .ensures, c .before .goes-on .ensures, c .before .before .word .ensures, c .before .before .before .byte-at2 .ensures, c .before .before .before .before .byte-at .ensures, c .before .before .before .before .before .before .before .push .ensures .1, c .before .before .before .before .before .before .before .before .before .kept-flags .ensures, c .before .before .before .before .before .before .before .before .before .before .before .push-address .ensures .0, c .before .before .before .before .before .before .before .before .before .before .before .push-address .ensures .1),
-)
+returns c =
+    let disabled = c .before .before .before .before .before in
+    let flags = disabled .before .before .push .ensures in
+    let kept = disabled .before .before .before .before .kept-flags .ensures in
+    let address = disabled .before .before .before .before .before .before .push-address .ensures in (
+      simp (disabled .set-interrupts .ensures, flags .0, kept, address .0),
+      simp (
+        c .finish .ensures,
+        c .before .goes-on .ensures,
+        c .before .before .word .ensures,
+        c .before .before .before .byte-at2 .ensures,
+        c .before .before .before .before .byte-at .ensures,
+        flags .1,
+        kept,
+        address .0,
+        address .1,
+      ),
+    )
 
 pub enter-spec : {M : Type 1} → statement M
 enter-spec =

@@ -1,3 +1,4 @@
+-- Running and idle any pending source is due, stopped an external one, each only if enabled.
 use Rattle.semantics.specs.Step.{entryDue}
 use borrow.Author.Needs.{needs}
 use Rattle.entry.proofs.entry_due.Statement.{statement}

@@ -1,3 +1,4 @@
+-- An act without refusal moves the core at its cost; a refused one leaves it and retires nothing.
 use borrow.Author.Tests.{eq-eqb, ne-eqb}
 use Rattle.entry.specs.InPlace.{finished}
 use borrow.Author.Needs.{needs}

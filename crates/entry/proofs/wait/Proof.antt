@@ -1,3 +1,4 @@
+-- A waiting step adds no cost and retires nothing.
 use borrow.Author.Needs.{needs}
 use Rattle.entry.proofs.wait.Statement.{statement}
 use Rattle.entry.proofs.wait.Tie as tie

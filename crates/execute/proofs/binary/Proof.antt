@@ -1,3 +1,4 @@
+-- Two-operand actions: both operands and C are read first, the destination is stored, then the flags.
 use Rattle.semantics.specs.Execute.{binaryOf}
 use borrow.Author.Needs.{needs}
 use Rattle.execute.proofs.binary.Statement.{statement}
@@ -35,7 +36,23 @@ goes-on-requires c κs = search needs
 
 returns : tie.Need-returns
 unfolding binaryOf
-returns c = (rw (c .before .before .before .with-flags .ensures, c .before .before .before .before .before .store-if .ensures, c .before .before .before .before .before .before .stores .ensures, c .before .before .before .before .before .before .before .before .operate .ensures, c .before .before .before .before .before .before .before .before .before .carry .ensures, c .before .before .before .before .before .before .before .before .before .before .before .load .ensures, c .before .before .before .before .before .before .before .before .before .before .before .before .before .before .fetch .ensures, c .before .before .before .before .before .before .before .before .before .before .before .before .before .before .before .before .place-of .ensures), simp (c .goes-on .ensures, c .before .before .before .before .before .before .before .before .before .before .before .before .before .before .fetch .ensures, c .before .before .before .before .before .before .before .before .before .before .before .before .before .before .before .before .place-of .ensures))
+returns c =
+    let stored = c .before .before .before .before .before in
+    let loaded = stored .before .before .before .before .before .before in
+    let fetched = loaded .before .before .before in
+    let place = fetched .before .before .place-of .ensures in (
+      rw (
+        c .before .before .before .with-flags .ensures,
+        stored .store-if .ensures,
+        stored .before .stores .ensures,
+        stored .before .before .before .operate .ensures,
+        stored .before .before .before .before .carry .ensures,
+        loaded .load .ensures,
+        fetched .fetch .ensures,
+        place,
+      ),
+      simp (c .goes-on .ensures, fetched .fetch .ensures, place),
+    )
 
 pub binary-spec : {M : Type 1} → statement M
 binary-spec =

@@ -1,3 +1,4 @@
+-- RCF, SCF and CCF each make of C what is defined.
 use Rattle.semantics.specs.Execute.{carryChanged}
 use borrow.Author.Needs.{needs}
 use Rattle.execute.proofs.carry_changed.Statement.{statement}

@@ -1,3 +1,4 @@
+-- FLAGS takes the changed C; the carry is read before.
 use Rattle.semantics.specs.Execute.{carryOf}
 use borrow.Author.Needs.{needs}
 use Rattle.execute.proofs.change_carry.Statement.{statement}

@@ -1,3 +1,4 @@
+-- Each of the 19 kinds of action leaves the registers and the rest that its own definition gives.
 use Rattle.semantics.specs.Execute.{executeOf, jumpOf, jumpPairOf, stopOf}
 use borrow.Author.Needs.{needs}
 use Rattle.execute.proofs.execute.Statement.{statement}
@@ -112,79 +113,79 @@ goes-on-requires : tie.Need-goes-on-requires
 goes-on-requires c κs = search needs
 
 returns : tie.Need-returns
-unfolding executeOf jumpOf jumpPairOf stopOf
+unfolding executeOf
 returns c = (simp (c .binary .ensures .0, c .before .before .before .action .given .1), simp (c .binary .ensures .1, c .before .before .before .action .given .1))
 
 returns-2 : tie.Need-returns-2
-unfolding executeOf jumpOf jumpPairOf stopOf
+unfolding executeOf
 returns-2 c = (simp (c .modify .ensures .0, c .before .before .before .action2 .given .1), simp (c .modify .ensures .1, c .before .before .before .action2 .given .1))
 
 returns-3 : tie.Need-returns-3
-unfolding executeOf jumpOf jumpPairOf stopOf
+unfolding executeOf
 returns-3 c = (simp (c .load .ensures .0, c .before .before .before .action3 .given .1), simp (c .load .ensures .1, c .before .before .before .action3 .given .1))
 
 returns-4 : tie.Need-returns-4
-unfolding executeOf jumpOf jumpPairOf stopOf
+unfolding executeOf
 returns-4 c = (simp (c .push-operand .ensures .0, c .before .before .before .action4 .given .1), simp (c .push-operand .ensures .1, c .before .before .before .action4 .given .1))
 
 returns-5 : tie.Need-returns-5
-unfolding executeOf jumpOf jumpPairOf stopOf
+unfolding executeOf
 returns-5 c = (simp (c .pop-operand .ensures .0, c .before .before .before .action5 .given .1), simp (c .pop-operand .ensures .1, c .before .before .before .action5 .given .1))
 
 returns-6 : tie.Need-returns-6
-unfolding executeOf jumpOf jumpPairOf stopOf
+unfolding executeOf
 returns-6 c = (simp (c .load-code .ensures .0, c .before .before .before .action6 .given .1), simp (c .load-code .ensures .1, c .before .before .before .action6 .given .1))
 
 returns-7 : tie.Need-returns-7
-unfolding executeOf jumpOf jumpPairOf stopOf
+unfolding executeOf
 returns-7 c = (simp (c .load-code-step .ensures .0, c .before .before .before .action7 .given .1), simp (c .load-code-step .ensures .1, c .before .before .before .action7 .given .1))
 
 returns-8 : tie.Need-returns-8
-unfolding executeOf jumpOf jumpPairOf stopOf
+unfolding executeOf
 returns-8 c = (simp (c .enum-told .given .1), simp (c .enum-told .given .1))
 
 returns-9 : tie.Need-returns-9
-unfolding executeOf jumpOf jumpPairOf stopOf
+unfolding executeOf jumpOf
 returns-9 c = (simp (c .before .before .before .action8 .given .1), simp (c .jump .ensures, c .before .before .before .action8 .given .1))
 
 returns-10 : tie.Need-returns-10
-unfolding executeOf jumpOf jumpPairOf stopOf
+unfolding executeOf jumpPairOf
 returns-10 c = (simp (c .before .before .before .action9 .given .1), simp (c .jump-pair .ensures, c .before .before .before .action9 .given .1))
 
 returns-11 : tie.Need-returns-11
-unfolding executeOf jumpOf jumpPairOf stopOf
+unfolding executeOf
 returns-11 c = (simp (c .call .ensures .0, c .before .before .before .action10 .given .1), simp (c .call .ensures .1, c .before .before .before .action10 .given .1))
 
 returns-12 : tie.Need-returns-12
-unfolding executeOf jumpOf jumpPairOf stopOf
+unfolding executeOf
 returns-12 c = (simp (c .call-pair .ensures .0, c .before .before .before .action11 .given .1), simp (c .call-pair .ensures .1, c .before .before .before .action11 .given .1))
 
 returns-13 : tie.Need-returns-13
-unfolding executeOf jumpOf jumpPairOf stopOf
+unfolding executeOf
 returns-13 c = (simp (c .return-from-call .ensures .0, c .before .before .enum-told2 .given .1), simp (c .return-from-call .ensures .1, c .before .before .enum-told2 .given .1))
 
 returns-14 : tie.Need-returns-14
-unfolding executeOf jumpOf jumpPairOf stopOf
+unfolding executeOf
 returns-14 c = (simp (c .interrupt-return .ensures .0, c .before .before .enum-told3 .given .1), simp (c .interrupt-return .ensures .1, c .before .before .enum-told3 .given .1))
 
 returns-15 : tie.Need-returns-15
-unfolding executeOf jumpOf jumpPairOf stopOf
+unfolding executeOf
 returns-15 c = (simp (c .change-carry .ensures .0, c .before .before .before .action12 .given .1), simp (c .change-carry .ensures .1, c .before .before .before .action12 .given .1))
 
 returns-16 : tie.Need-returns-16
-unfolding executeOf jumpOf jumpPairOf stopOf
+unfolding executeOf
 returns-16 c = (simp (c .switch-interrupts .ensures .0, c .before .before .before .action13 .given .1), simp (c .switch-interrupts .ensures .1, c .before .before .before .action13 .given .1))
 
 returns-17 : tie.Need-returns-17
-unfolding executeOf jumpOf jumpPairOf stopOf
+unfolding executeOf
 returns-17 c = (simp (c .enum-told4 .given .1), simp (c .enum-told4 .given .1))
 
 returns-18 : tie.Need-returns-18
-unfolding executeOf jumpOf jumpPairOf stopOf
+unfolding executeOf stopOf
 returns-18 c = (simp (c .before .before .enum-told5 .given .1), simp (c .stop .ensures, c .before .before .enum-told5 .given .1))
 
 returns-19 : tie.Need-returns-19
-unfolding executeOf jumpOf jumpPairOf stopOf
+unfolding executeOf
 returns-19 c = (simp (c .before .enum-told6 .given .1), simp (c .goes-on .ensures, c .before .enum-told6 .given .1))
 
 pub execute-spec : {M : Type 1} → statement M

@@ -1,3 +1,4 @@
+-- JP, JR: the condition of FLAGS chooses between target and next address.
 use Rattle.semantics.specs.Execute.{jumpOf}
 use borrow.Author.Needs.{needs}
 use Rattle.execute.proofs.jump.Statement.{statement}

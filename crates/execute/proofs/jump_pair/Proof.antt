@@ -1,3 +1,4 @@
+-- JP through a pair goes to its word, refused where the pair is not mapped.
 use Rattle.semantics.specs.Execute.{jumpPairOf}
 use borrow.Author.Needs.{needs}
 use Rattle.execute.proofs.jump_pair.Statement.{statement}

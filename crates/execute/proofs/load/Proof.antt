@@ -1,3 +1,4 @@
+-- LD: place and byte are read first, then stored.
 use Rattle.semantics.specs.Execute.{loadInto}
 use borrow.Author.Needs.{needs}
 use Rattle.execute.proofs.load.Statement.{statement}
@@ -17,7 +18,12 @@ goes-on-requires c κs = search needs
 
 returns : tie.Need-returns
 unfolding loadInto
-returns c = (rw (c .before .before .before .store .ensures, c .before .before .before .before .before .before .fetch .ensures, c .before .before .before .before .before .before .before .before .place-of .ensures), simp (c .goes-on .ensures, c .before .before .before .before .before .before .fetch .ensures, c .before .before .before .before .before .before .before .before .place-of .ensures))
+returns c =
+    let fetched = c .before .before .before .before .before .before in
+    let place = fetched .before .before .place-of .ensures in (
+      rw (c .before .before .before .store .ensures, fetched .fetch .ensures, place),
+      simp (c .goes-on .ensures, fetched .fetch .ensures, place),
+    )
 
 pub load-spec : {M : Type 1} → statement M
 load-spec =

@@ -1,3 +1,4 @@
+-- One-operand actions: operand and C are read first, the destination is stored, then the flags.
 use Rattle.semantics.specs.Execute.{modifyOf}
 use borrow.Author.Needs.{needs}
 use Rattle.execute.proofs.modify.Statement.{statement}
@@ -29,7 +30,19 @@ goes-on-requires c κs = search needs
 
 returns : tie.Need-returns
 unfolding modifyOf
-returns c = (rw (c .before .with-flags .ensures, c .before .before .before .store .ensures, c .before .before .before .before .before .modify .ensures, c .before .before .before .before .before .before .carry .ensures, c .before .before .before .before .before .before .before .before .load .ensures, c .before .before .before .before .before .before .before .before .before .before .before .place-of .ensures), simp (c .goes-on .ensures, c .before .before .before .before .before .before .before .before .before .before .before .place-of .ensures))
+returns c =
+    let modified = c .before .before .before .before .before in
+    let place = modified .before .before .before .before .before .before .place-of .ensures in (
+      rw (
+        c .before .with-flags .ensures,
+        c .before .before .before .store .ensures,
+        modified .modify .ensures,
+        modified .before .carry .ensures,
+        modified .before .before .before .load .ensures,
+        place,
+      ),
+      simp (c .goes-on .ensures, place),
+    )
 
 pub modify-spec : {M : Type 1} → statement M
 modify-spec =

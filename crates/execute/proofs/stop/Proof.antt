@@ -1,3 +1,4 @@
+-- STOP waits where STOPCON is A5H and else loads 0100H: the definition's two cases.
 use Rattle.semantics.specs.Execute.{stopOf}
 use borrow.Author.Tests.{eq-eqb, ne-eqb}
 use borrow.Author.Needs.{needs}

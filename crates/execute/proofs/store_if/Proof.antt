@@ -1,3 +1,4 @@
+-- The byte is stored where asked; else nothing changes.
 use Rattle.semantics.specs.Execute.{storeIf}
 use borrow.Author.Needs.{needs}
 use Rattle.execute.proofs.store_if.Statement.{statement}

@@ -1,9 +1,6 @@
--- `judge_files`: by what its callees promise.
+-- `judge_files`: some texts were read into the blank buffers, and what is written is what is printed of them.
 -- Assumes nothing.
-use mathlib.Core.Path.{_≡_, _∙_}
-use lib.ListN.{length}
-use Rattle.base.specs.Lengths.{certificateLength}
-use Rattle.files.specs.ReadingLaws.{length-filled, judges}
+use Rattle.files.specs.ReadingLaws.{judges}
 use borrow.Author.Needs.{needs}
 use Rattle.files.proofs.judge_files.Statement.{statement}
 use Rattle.files.proofs.judge_files.Tie as tie
@@ -45,10 +42,16 @@ same-length : tie.Need-same-length
 same-length c = search needs
 
 returns : tie.Need-returns
-returns c = let w = c .before .before .write-judgement .ensures in
-    let blank : length (c .before .before .before .before .before .before .before .before .before .before .before .before .before .before .blank-certificate .result) ≡ certificateLength = rw (c .before .before .before .before .before .before .before .before .before .before .before .before .before .before .blank-certificate .ensures) (length-filled certificateLength 0) in
-    judges (rw (c .before .before .before .before .before .before .before .before .before .before .before .before .before .before .before .blank-image .ensures) at (c .before .before .before .before .before .before .before .before .before .before .before .before .read-file .ensures))
-    (rw (c .before .before .before .before .before .before .before .before .before .before .before .before .before .before .blank-certificate .ensures) at (c .before .before .before .before .before .before .before .before .before .read-file2 .ensures)) (c .before .before .before .before .before .before .before .before .before .read-file2 .kept .1 .0 ∙ blank) (c .before .before .before .before .before .check .ensures .0) (w .0) (w .1)
+returns c =
+    let w = c .before .before in
+    let check = w .before .before .before in
+    let certificate = check .before .before .before .before in
+    let image = certificate .before .before .before in
+    let blank = image .before .before in
+    let none = blank .blank-certificate .ensures in
+    judges (rw (blank .before .blank-image .ensures) at (image .read-file .ensures))
+    (rw none at (certificate .read-file2 .ensures)) (rw none at (certificate .read-file2 .kept .1 .0))
+    (check .check .ensures .0) (w .write-judgement .ensures .0) (w .write-judgement .ensures .1)
 
 pub judge-files-spec : {M : Type 1} → statement M
 judge-files-spec =

@@ -1,4 +1,4 @@
--- `read_file`: by what its callees promise.
+-- `read_file`: a missing file is read as an empty text, another as `read_open` reads it.
 -- Assumes nothing.
 use mathlib.Core.Path.{refl}
 use Rattle.files.specs.ReadingLaws.{reads-none}

@@ -31,25 +31,27 @@ finish-requires : tie.Need-finish-requires Inv-loop μ-loop
 finish-requires c κs = search needs
 
 same-length : tie.Need-same-length Inv-loop μ-loop
-same-length c = c .before .before .before .before .before .buffer .given ∙ c .before .before .before .before .before .before .before .before .before .loop .inv .1
+same-length c =
+    let piece = c .before .before .before .before .before in
+    piece .buffer .given ∙ piece .before .before .before .before .loop .inv .1
 
 returns : tie.Need-returns Inv-loop μ-loop
-returns c = reads-none (c .before .before .before .before .before .buffer .given ∙ c .before .before .before .before .before .before .before .before .before .loop .inv .1) (rw (c .before .start2 .ensures) at (c .finish .ensures))
+returns c =
+    let piece = c .before .before .before .before .before in
+    reads-none (piece .buffer .given ∙ piece .before .before .before .before .loop .inv .1)
+    (rw (c .before .start2 .ensures) at (c .finish .ensures))
 
-sub-turns : tie.Need-sub-turns Inv-loop μ-loop
-sub-turns c = search needs
+turns-left-requires : tie.Need-turns-left-requires Inv-loop μ-loop
+turns-left-requires c κs = search needs
 
 loop-less : tie.Need-loop-less Inv-loop μ-loop
 loop-less c = search needs
 
 loop-again : tie.Need-loop-again Inv-loop μ-loop
-loop-again c = (fed-more (c .before .before .before .before .before .before .before .before .loop .inv .1) (c .before .before .before .before .before .before .before .before .loop .inv .0) (c .before .before .before .before .before .read-piece .ensures), c .before .before .before .before .buffer .given ∙ c .before .before .before .before .before .before .before .before .loop .inv .1)
-
-loop-less-2 : tie.Need-loop-less-2 Inv-loop μ-loop
-loop-less-2 c = search needs
-
-loop-again-2 : tie.Need-loop-again-2 Inv-loop μ-loop
-loop-again-2 c = (fed-more (c .before .before .before .before .before .before .before .before .loop .inv .1) (c .before .before .before .before .before .before .before .before .loop .inv .0) (c .before .before .before .before .before .read-piece .ensures), c .before .before .before .before .buffer .given ∙ c .before .before .before .before .before .before .before .before .loop .inv .1)
+loop-again c =
+    let piece = c .before .before .before .before in
+    let l = piece .before .before .before .before .loop in
+    (fed-more (l .inv .1) (l .inv .0) (piece .before .read-piece .ensures), piece .buffer .given ∙ l .inv .1)
 
 finish-requires-2 : tie.Need-finish-requires-2 Inv-loop μ-loop
 finish-requires-2 c κs = search needs
@@ -58,7 +60,9 @@ same-length-2 : tie.Need-same-length-2 Inv-loop μ-loop
 same-length-2 c = c .before .before .loop .inv .1
 
 returns-2 : tie.Need-returns-2 Inv-loop μ-loop
-returns-2 c = reads-finish (c .before .before .loop .inv .1) (c .before .before .loop .inv .0) (c .finish2 .ensures)
+returns-2 c =
+    let l = c .before .before .loop in
+    reads-finish (l .inv .1) (l .inv .0) (c .finish2 .ensures)
 
 pub read-open-spec : {M : Type 1} → statement M
 read-open-spec =
@@ -73,11 +77,9 @@ read-open-spec =
     finish-requires
     same-length
     returns
-    sub-turns
+    turns-left-requires
     loop-less
     loop-again
-    loop-less-2
-    loop-again-2
     finish-requires-2
     same-length-2
     returns-2)

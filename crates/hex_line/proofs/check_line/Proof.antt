@@ -1,4 +1,4 @@
--- `check_line`: the length, then the end line, then the fields, by what the callees promise.
+-- `check_line`: the length, then the end line, then the fields, as the definition tests them.
 -- Assumes nothing.
 use mathlib.Core.Path.{sym, ap, _∙_}
 use lib.Seq.{length-take-le}
@@ -35,22 +35,28 @@ enum-told c = search needs
 
 returns-2 : tie.Need-returns-2
 unfolding readLine
-returns-2 c = rw (
-  sym (c .before .before .before .before .before .before .before .before .before .is-buffer-length .ensures) ∙ c .before .before .before .before .before .before .before .before .if1 .taken,
-  c .before .before .before .before .before .before .before .if2 .left,
-  ← c .before .before .before .before .before .before .body-length .ensures .0,
-  sym (c .before .before .before .before .parse .ensures .0) ∙ ap parsedOutcome (c .before .before .f .given .1),
-)
+returns-2 c =
+    let parsed = c .before .before .before .before in
+    let body = parsed .before .before in
+    rw (
+      sym (body .before .before .before .is-buffer-length .ensures) ∙ body .before .before .if1 .taken,
+      body .before .if2 .left,
+      ← body .body-length .ensures .0,
+      sym (parsed .parse .ensures .0) ∙ ap parsedOutcome (c .before .before .f .given .1),
+    )
     (c .answer .ensures)
 
 returns-3 : tie.Need-returns-3
 unfolding readLine
-returns-3 c = rw (
-  sym (c .before .before .before .before .before .before .before .is-buffer-length .ensures) ∙ c .before .before .before .before .before .before .if1 .taken,
-  c .before .before .before .before .before .if2 .left,
-  ← c .before .before .before .before .body-length .ensures .0,
-  sym (c .before .before .parse .ensures .0) ∙ ap parsedOutcome (c .enum-told .given .1),
-)
+returns-3 c =
+    let parsed = c .before .before in
+    let body = parsed .before .before in
+    rw (
+      sym (body .before .before .before .is-buffer-length .ensures) ∙ body .before .before .if1 .taken,
+      body .before .if2 .left,
+      ← body .body-length .ensures .0,
+      sym (parsed .parse .ensures .0) ∙ ap parsedOutcome (c .enum-told .given .1),
+    )
 
 returns-4 : tie.Need-returns-4
 unfolding readLine

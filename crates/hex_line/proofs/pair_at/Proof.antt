@@ -1,4 +1,4 @@
--- `pair_at`: by what its callees promise.
+-- `pair_at`: the two digits are those of the two bytes, and their value is below 257.
 -- Assumes nothing.
 use mathlib.Core.Path.{_∙_}
 use Rattle.hex_line.specs.Record.{pairAt}

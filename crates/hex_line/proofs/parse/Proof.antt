@@ -59,20 +59,22 @@ add-t15 c = search needs
 
 returns-3 : tie.Need-returns-3
 unfolding parseBody fieldsOf countOf addressOf
-returns-3 c = (
-  rw (
-    ← c .before .before .before .before .before .before .before .before .byte-at .ensures,
-    eq-eqb _ _ (c .before .before .before .before .before .before .before .if1 .left),
-    ← c .before .before .before .before .before .before .pair-at .ensures .0,
-    eq-eqb _ _ (c .before .before .before .before .before .if2 .left),
-    ← c .before .before .before .before .sum-of .ensures .0,
-    lt-ltb _ _ (c .before .before .before .if3 .taken),
-    ← c .before .before .pair-at2 .ensures .0,
-    ← c .before .pair-at3 .ensures .0,
-    ← c .pair-at4 .ensures .0,
-  ),
-  omega arith,
-)
+returns-3 c =
+    let sum = c .before .before .before .before in
+    let count = sum .before .before in (
+      rw (
+        ← count .before .before .byte-at .ensures,
+        eq-eqb _ _ (count .before .if1 .left),
+        ← count .pair-at .ensures .0,
+        eq-eqb _ _ (sum .before .if2 .left),
+        ← sum .sum-of .ensures .0,
+        lt-ltb _ _ (c .before .before .before .if3 .taken),
+        ← c .before .before .pair-at2 .ensures .0,
+        ← c .before .pair-at3 .ensures .0,
+        ← c .pair-at4 .ensures .0,
+      ),
+      omega arith,
+    )
 
 returns-4 : tie.Need-returns-4
 unfolding parseBody fieldsOf countOf addressOf

@@ -14,7 +14,9 @@ enum-known-next : tie.Need-enum-known-next
 enum-known-next c = search needs
 
 store-requires : tie.Need-store-requires
-store-requires c κs = read-within _ _ _ _ (sym (c .before .before .before .before .check-line .ensures) ∙ ap lineOutcome (c .before .before .next .given .1))
+store-requires c κs =
+    let read = c .before .before in
+    read-within _ _ _ _ (sym (read .before .before .check-line .ensures) ∙ ap lineOutcome (read .next .given .1))
 
 enum-known-fault : tie.Need-enum-known-fault
 enum-known-fault c = search needs
@@ -24,11 +26,16 @@ same-length c = search needs
 
 returns : tie.Need-returns
 unfolding lineBuffer
-returns c = let e = sym (c .before .before .before .before .before .before .before .check-line .ensures) ∙ ap lineOutcome (c .before .before .before .before .before .next .given .1) in (sym e, rw e (c .before .before .store .ensures))
+returns c =
+    let read = c .before .before .before .before .before in
+    let e = sym (read .before .before .check-line .ensures) ∙ ap lineOutcome (read .next .given .1) in
+    (sym e, rw e (c .before .before .store .ensures))
 
 returns-2 : tie.Need-returns-2
 unfolding lineBuffer
-returns-2 c = let e = sym (c .before .before .before .check-line .ensures) ∙ ap lineOutcome (c .before .fault .given .1) in (sym e, rw e)
+returns-2 c =
+    let e = sym (c .before .before .before .check-line .ensures) ∙ ap lineOutcome (c .before .fault .given .1) in
+    (sym e, rw e)
 
 pub read-line-spec : {M : Type 1} → statement M
 read-line-spec =

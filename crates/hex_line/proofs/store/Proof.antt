@@ -45,33 +45,36 @@ add-at c = search needs
 
 sub-fill : tie.Need-sub-fill
 unfolding addressOf countOf
-sub-fill c = omega (
-  arith,
-  rw (← c .before .before .before .before .body-length .ensures .0, ← c .before .before .pair-at .ensures .0, ← c .before .pair-at2 .ensures .0, ← c .pair-at3 .ensures .0)
-      at (c .before .before .before .before .before .before .before .pre),
-)
+sub-fill c =
+    let n = c .before .before in
+    let body = n .before .before in
+    omega (
+      arith,
+      rw (← body .body-length .ensures .0, ← n .pair-at .ensures .0, ← c .before .pair-at2 .ensures .0, ← c .pair-at3 .ensures .0)
+          at (body .before .before .before .pre),
+    )
 
 part-fill-start : tie.Need-part-fill-start
-unfolding addressOf countOf
-part-fill-start c = omega (
-  arith,
-  rw (← c .before .before .before .before .body-length .ensures .0, ← c .before .before .pair-at .ensures .0, ← c .before .pair-at2 .ensures .0, ← c .pair-at3 .ensures .0)
-      at (c .before .before .before .before .before .before .before .pre),
-)
+part-fill-start c = sub-fill c
 
 part-fill-end : tie.Need-part-fill-end
 part-fill-end c = search needs
 
 fill-requires : tie.Need-fill-requires
 unfolding addressOf countOf
-fill-requires c κs = let a = c .before .before .before .before .before .before .before .before .args in
-    let count = c .before .before .before .pair-at .result in
-    let at₀ = c .before .before .pair-at2 .result * 256 + c .before .pair-at3 .result in
-    let h : at₀ + count ≤ length (now (a .buffer)) =
-    rw (← c .before .before .before .before .before .body-length .ensures .0, ← c .before .before .before .pair-at .ensures .0, ← c .before .before .pair-at2 .ensures .0, ← c .before .pair-at3 .ensures .0)
-    at (c .before .before .before .before .before .before .before .before .pre) in
-    let p : count ≤ length (take (length (now (a .buffer)) - at₀) (drop at₀ (now (a .buffer)))) =
-    simp (length-take, length-drop) (omega arith) in
+fill-requires c κs =
+    let low = c .before in
+    let high = low .before in
+    let n = high .before in
+    let body = n .before .before in
+    let start = body .before .before .before in
+    let buffer = now (start .args .buffer) in
+    let count = n .pair-at .result in
+    let at₀ = high .pair-at2 .result * 256 + low .pair-at3 .result in
+    let h : at₀ + count ≤ length buffer =
+    rw (← body .body-length .ensures .0, ← n .pair-at .ensures .0, ← high .pair-at2 .ensures .0, ← low .pair-at3 .ensures .0)
+    at (start .pre) in
+    let p : count ≤ length (take (length buffer - at₀) (drop at₀ buffer)) = simp (length-take, length-drop) (omega arith) in
     (search needs, p)
 
 same-length : tie.Need-same-length
@@ -79,15 +82,20 @@ same-length c = search needs
 
 returns : tie.Need-returns
 unfolding stored addressOf countOf
-returns c = let a = c .before .before .before .before .before .before .before .before .before .before .before .args in
-    let body = take (c .before .before .before .before .before .before .before .before .body-length .result) (now (a .line)) in
-    let count = c .before .before .before .before .before .before .pair-at .result in
-    let at₀ = c .before .before .before .before .before .pair-at2 .result * 256 + c .before .before .before .before .pair-at3 .result in
+returns c =
+    let low = c .before .before .before .before in
+    let high = low .before in
+    let n = high .before in
+    let text = n .before .before in
+    let a = text .before .before .before .args in
+    let body = take (text .body-length .result) (now (a .line)) in
+    let count = n .pair-at .result in
+    let at₀ = high .pair-at2 .result * 256 + low .pair-at3 .result in
     rw (
-      ← c .before .before .before .before .before .before .before .before .body-length .ensures .0,
-      ← c .before .before .before .before .before .before .pair-at .ensures .0,
-      ← c .before .before .before .before .before .pair-at2 .ensures .0,
-      ← c .before .before .before .before .pair-at3 .ensures .0,
+      ← text .body-length .ensures .0,
+      ← n .pair-at .ensures .0,
+      ← high .pair-at2 .ensures .0,
+      ← low .pair-at3 .ensures .0,
       c .before .before .fill .ensures,
     )
     (part-back (now (a .buffer)) (dataOf body count) at₀ count)

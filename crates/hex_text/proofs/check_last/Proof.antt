@@ -1,4 +1,4 @@
--- `check_last`: by what the callees promise.
+-- `check_last`: the answer to the line behind the last LF, then that to the file's end.
 -- Assumes nothing.
 use mathlib.Core.Path.{sym, ap, _∙_}
 use lib.Seq.{length-take-le}

@@ -47,10 +47,11 @@ loop-less c = search needs
 
 loop-again : tie.Need-loop-again Inv-loop μ-loop
 unfolding linesAnswer
-loop-again c = let l = c .before .before .before .before .before .before .before .loop in
-    let s = now (c .before .before .before .before .before .before .before .before .before .before .args .text) in
-    let e = c .before .before .before .before .before .line-end .result in
-    let k = turn s (l .at) e (c .before .before .before .before .before .before .loop-test .taken) (c .before .before .before .before .before .line-end .ensures .0) in
+loop-again c =
+    let line = c .before .before .before .before .before in
+    let l = line .before .before .loop in
+    let s = now (line .before .before .before .before .before .args .text) in
+    let k = turn s (l .at) (line .line-end .result) (line .before .loop-test .taken) (line .line-end .ensures .0) in
     let g = sym (c .before .before .before .check-line .ensures) ∙ ap lineOutcome (c .before .next .given .1) in
     (search needs, l .inv .1 ∙ rw (k, g))
 
@@ -62,10 +63,11 @@ number-requires c κs = search needs
 
 returns : tie.Need-returns Inv-loop μ-loop
 unfolding linesAnswer
-returns c = let l = c .before .before .before .before .before .before .before .before .loop in
-    let s = now (c .before .before .before .before .before .before .before .before .before .before .before .args .text) in
-    let e = c .before .before .before .before .before .before .line-end .result in
-    let k = turn s (l .at) e (c .before .before .before .before .before .before .before .loop-test .taken) (c .before .before .before .before .before .before .line-end .ensures .0) in
+returns c =
+    let line = c .before .before .before .before .before .before in
+    let l = line .before .before .loop in
+    let s = now (line .before .before .before .before .before .args .text) in
+    let k = turn s (l .at) (line .line-end .result) (line .before .loop-test .taken) (line .line-end .ensures .0) in
     let g = sym (c .before .before .before .before .check-line .ensures) ∙ ap lineOutcome (c .before .before .fault .given .1) in
     sym (l .inv .1 ∙ rw (k, g, c .number .ensures))
 
@@ -74,7 +76,9 @@ end-answer-requires c κs = search needs
 
 returns-2 : tie.Need-returns-2 Inv-loop μ-loop
 unfolding linesAnswer lines
-returns-2 c = c .end-answer .ensures ∙ sym (c .before .before .loop .inv .1 ∙ rw (drop-of-length-le (now (c .before .before .before .before .before .args .text)) (c .before .loop-test .left)))
+returns-2 c =
+    let s = now (c .before .before .before .before .before .args .text) in
+    c .end-answer .ensures ∙ sym (c .before .before .loop .inv .1 ∙ rw (drop-of-length-le s (c .before .loop-test .left)))
 
 pub check-lines-spec : {M : Type 1} → statement M
 check-lines-spec =

@@ -19,14 +19,17 @@ same-length : tie.Need-same-length
 same-length c = search needs
 
 returns : tie.Need-returns
-returns c = let a = c .before .before .before .before .before .before .before .before .before .before .args in
-    let e = sym (open-stream (a .s) (c .before .before .before .before .before .before .if1 .taken)) in (
+returns c =
+    let test = c .before .before .before .before .before .before in
+    let a = test .before .before .before .before .args in
+    let e = sym (open-stream (a .s) (test .if1 .taken)) in (
       c .before .before .feed-open .ensures .0 ∙ ap (λ (s : Stream). feedStream (length (now (a .buffer))) s (now (a .piece))) e,
       c .before .before .feed-open .ensures .1 ∙ ap (λ (s : Stream). feedBuffer s (now (a .piece)) (now (a .buffer))) e,
     )
 
 returns-2 : tie.Need-returns-2
-returns-2 c = let a = c .before .before .before .before .args in
+returns-2 c =
+    let a = c .before .before .before .before .args in
     let above : 0 < a .s .number = omega (arith, c .if1 .left) in
     (sym (feed-refused _ (a .s) (now (a .piece)) above), sym (feed-refused-buffer (a .s) (now (a .piece)) (now (a .buffer)) above))
 

@@ -8,9 +8,10 @@ use lib.ListN.{length, length-set}
 use lib.Seq.{length-take-le}
 use borrow.Author.Tests.{le-leb, lt-leb, eq-eqb, ne-eqb}
 use Rattle.hex_line.specs.Line.{lineOutcome}
-use Rattle.hex_line.specs.LineLaws.{refused-above}
+use Rattle.hex_line.specs.Refusals.{line-number}
 use Rattle.hex_text.specs.Stream.{streamOf, pushStream, pushBuffer}
-use Rattle.hex_text.specs.StreamLaws.{FedUpTo, fed-one, fed-all, fed-refused, long-above}
+use Rattle.hex_text.specs.StreamLaws.{FedUpTo, fed-one, fed-all, fed-refused}
+use Rattle.hex_text.specs.Refusals.{long-number}
 use borrow.Author.Needs.{needs}
 use Rattle.hex_text.proofs.feed_open.Statement.{statement}
 use Rattle.hex_text.proofs.feed_open.Tie as tie
@@ -46,9 +47,13 @@ same-length c = c .before .before .before .before .before .loop .inv .2
 returns : tie.Need-returns Inv-loop μ-loop
 unfolding pushStream pushBuffer
 returns c =
-    let l = c .before .before .before .before .before .loop in
-    let long = le-leb _ _ (c .before .before .if1 .taken) in
-    let f = fed-refused (fed-one (l .inv .1) (c .before .before .before .before .loop-test .taken) (l .inv .2) refl refl) (rw long (long-above (l .reader) (length (now (c .before .before .before .before .before .before .before .before .args .buffer))))) in
+    let test = c .before .before in
+    let l = test .before .before .before .loop in
+    let size = length (now (test .before .before .before .before .before .before .args .buffer)) in
+    let long = le-leb _ _ (test .if1 .taken) in
+    let f =
+    fed-refused (fed-one (l .inv .1) (test .before .before .loop-test .taken) (l .inv .2) refl refl)
+    (rw long (long-number (l .reader) size .0)) in
     (c .make-stream .ensures ∙ rw (c .before .long-number .ensures, l .inv .2) (rw long at (f .0)), rw long at (f .1))
 
 array-write-held : tie.Need-array-write-held Inv-loop μ-loop
@@ -75,12 +80,15 @@ loop-less c = search needs
 loop-again : tie.Need-loop-again Inv-loop μ-loop
 unfolding pushStream pushBuffer
 loop-again c =
-    let l = c .before .before .before .before .before .before .before .before .before .before .before .before .loop in
-    let g = rw (l .inv .2) at (sym (c .before .before .before .before .before .read-line .ensures .0)) ∙ ap lineOutcome (c .before .next .given .1) in
-    let room = lt-leb _ _ (c .before .before .before .before .before .before .before .before .before .if1 .left) in
-    let end = eq-eqb _ _ (c .before .before .before .before .before .before .before .before .if2 .taken) in (
+    let read = c .before .before .before .before .before in
+    let tests = read .before .before .before in
+    let l = tests .before .before .before .before .loop in
+    let g = rw (l .inv .2) at (sym (read .read-line .ensures .0)) ∙ ap lineOutcome (c .before .next .given .1) in
+    let room = lt-leb _ _ (tests .before .if1 .left) in
+    let end = eq-eqb _ _ (tests .if2 .taken) in (
       search needs,
-      fed-one (l .inv .1) (c .before .before .before .before .before .before .before .before .before .before .before .loop-test .taken) (l .inv .2) (rw (room, end, g)) (rw (room, end) (sym (c .before .before .before .before .before .read-line .ensures .1))),
+      fed-one (l .inv .1) (tests .before .before .before .loop-test .taken) (l .inv .2) (rw (room, end, g))
+          (rw (room, end) (sym (read .read-line .ensures .1))),
       c .before .before .before .before .buffer .given ∙ l .inv .2,
       rw length-set (l .inv .3),
     )
@@ -95,17 +103,27 @@ make-stream-requires-2 : tie.Need-make-stream-requires-2 Inv-loop μ-loop
 make-stream-requires-2 c κs = search needs
 
 same-length-2 : tie.Need-same-length-2 Inv-loop μ-loop
-same-length-2 c = c .before .before .before .before .before .before .buffer .given ∙ c .before .before .before .before .before .before .before .before .before .before .before .before .before .before .loop .inv .2
+same-length-2 c =
+    let lent = c .before .before .before .before .before .before in
+    let tests = lent .before .before .before .before in
+    lent .buffer .given ∙ tests .before .before .before .before .loop .inv .2
 
 returns-2 : tie.Need-returns-2 Inv-loop μ-loop
 unfolding pushStream pushBuffer
 returns-2 c =
-    let l = c .before .before .before .before .before .before .before .before .before .before .before .before .before .before .loop in
-    let g = rw (l .inv .2) at (sym (c .before .before .before .before .before .before .before .read-line .ensures .0)) ∙ ap lineOutcome (c .before .before .before .fault .given .1) in
-    let room = lt-leb _ _ (c .before .before .before .before .before .before .before .before .before .before .before .if1 .left) in
-    let end = eq-eqb _ _ (c .before .before .before .before .before .before .before .before .before .before .if2 .taken) in
-    let f = fed-refused (fed-one (l .inv .1) (c .before .before .before .before .before .before .before .before .before .before .before .before .before .loop-test .taken) (l .inv .2) refl refl) (rw (room, end, g) (refused-above (l .reader) _ _ _ g)) in
-    (c .make-stream2 .ensures ∙ rw (c .before .number .ensures) (rw (room, end, g) at (f .0)), c .before .before .before .before .before .before .before .read-line .ensures .1 ∙ rw (room, end) at (f .1))
+    let fault = c .before .before .before in
+    let read = fault .before .before .before .before in
+    let tests = read .before .before .before in
+    let l = tests .before .before .before .before .loop in
+    let g = rw (l .inv .2) at (sym (read .read-line .ensures .0)) ∙ ap lineOutcome (fault .fault .given .1) in
+    let room = lt-leb _ _ (tests .before .if1 .left) in
+    let end = eq-eqb _ _ (tests .if2 .taken) in
+    let f =
+    fed-refused (fed-one (l .inv .1) (tests .before .before .before .loop-test .taken) (l .inv .2) refl refl)
+    (rw (room, end, g) (line-number (l .reader) _ _ _ g .0)) in (
+      c .make-stream2 .ensures ∙ rw (c .before .number .ensures) (rw (room, end, g) at (f .0)),
+      read .read-line .ensures .1 ∙ rw (room, end) at (f .1),
+    )
 
 loop-less-2 : tie.Need-loop-less-2 Inv-loop μ-loop
 loop-less-2 c = search needs
@@ -129,7 +147,9 @@ same-length-3 : tie.Need-same-length-3 Inv-loop μ-loop
 same-length-3 c = c .before .before .loop .inv .2
 
 returns-3 : tie.Need-returns-3 Inv-loop μ-loop
-returns-3 c = let f = fed-all (c .before .before .loop .inv .1) (c .before .loop-test .left) in (c .make-stream3 .ensures ∙ f .0, f .1)
+returns-3 c =
+    let f = fed-all (c .before .before .loop .inv .1) (c .before .loop-test .left) in
+    (c .make-stream3 .ensures ∙ f .0, f .1)
 
 pub feed-open-spec : {M : Type 1} → statement M
 feed-open-spec =

@@ -26,13 +26,19 @@ same-length c = search needs
 
 returns : tie.Need-returns
 unfolding textAnswer textBuffer
-returns c = let b = sym (c .before .before .before .before .before .before .before .before .is-buffer-length .ensures) ∙ c .before .before .before .before .before .before .before .if1 .taken in
-    let e = sym (c .before .before .before .before .before .before .check-lines .ensures) ∙ ap textOutcome (c .before .before .before .before .enum-told .given .1) in rw (b, e) (refl, c .before .before .write-lines .ensures)
+returns c =
+    let checked = c .before .before .before .before .before .before in
+    let b = sym (checked .before .before .is-buffer-length .ensures) ∙ checked .before .if1 .taken in
+    let e = sym (checked .check-lines .ensures) ∙ ap textOutcome (c .before .before .before .before .enum-told .given .1) in
+    rw (b, e) (refl, c .before .before .write-lines .ensures)
 
 returns-2 : tie.Need-returns-2
 unfolding textAnswer textBuffer
-returns-2 c = let b = sym (c .before .before .before .before .before .is-buffer-length .ensures) ∙ c .before .before .before .before .if1 .taken in
-    let e = sym (c .before .before .before .check-lines .ensures) ∙ ap textOutcome (c .before .number .given .1) in rw (b, e) (refl, refl)
+returns-2 c =
+    let checked = c .before .before .before in
+    let b = sym (checked .before .before .is-buffer-length .ensures) ∙ checked .before .if1 .taken in
+    let e = sym (checked .check-lines .ensures) ∙ ap textOutcome (c .before .number .given .1) in
+    rw (b, e) (refl, refl)
 
 returns-3 : tie.Need-returns-3
 unfolding textAnswer textBuffer

@@ -1,4 +1,4 @@
--- `start`: by what its callees promise.
+-- `start`: a stream with the first reader, an empty line and no refusal.
 -- Assumes nothing.
 use mathlib.Core.Path.{_∙_}
 use borrow.Author.Needs.{needs}

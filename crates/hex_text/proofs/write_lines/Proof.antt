@@ -49,34 +49,45 @@ loop-less c = search needs
 
 loop-again : tie.Need-loop-again Inv-loop μ-loop
 unfolding linesBuffer
-loop-again c = let l = c .before .before .before .before .before .before .before .before .before .before .loop in
-    let s = now (c .before .before .before .before .before .before .before .before .before .before .before .before .before .before .args .text) in
-    let e = c .before .before .before .before .before .before .before .before .line-end .result in
-    let k = turn s (l .at) e (c .before .before .before .before .before .before .before .before .before .loop-test .taken) (c .before .before .before .before .before .before .before .before .line-end .ensures .0) in
-    let g = sym (c .before .before .before .before .before .read-line .ensures .0) ∙ ap lineOutcome (c .before .next .given .1) in
-    (search needs, l .inv .1 ∙ rw (k, g, c .before .before .before .before .before .read-line .ensures .1), c .before .before .before .before .buffer .given ∙ l .inv .2)
+loop-again c =
+    let read = c .before .before .before .before .before in
+    let line = read .before .before .before in
+    let l = line .before .before .loop in
+    let s = now (line .before .before .before .before .before .before .args .text) in
+    let k = turn s (l .at) (line .line-end .result) (line .before .loop-test .taken) (line .line-end .ensures .0) in
+    let g = sym (read .read-line .ensures .0) ∙ ap lineOutcome (c .before .next .given .1) in (
+      search needs,
+      l .inv .1 ∙ rw (k, g, read .read-line .ensures .1),
+      c .before .before .before .before .buffer .given ∙ l .inv .2,
+    )
 
 enum-told : tie.Need-enum-told Inv-loop μ-loop
 enum-told c = search needs
 
 same-length : tie.Need-same-length Inv-loop μ-loop
-same-length c = c .before .before .before .buffer .given ∙ c .before .before .before .before .before .before .before .before .before .loop .inv .2
+same-length c =
+    let lent = c .before .before .before in
+    lent .buffer .given ∙ lent .before .before .before .before .before .before .loop .inv .2
 
 returns : tie.Need-returns Inv-loop μ-loop
 unfolding linesBuffer lineBuffer
-returns c = let l = c .before .before .before .before .before .before .before .before .before .loop in
-    let s = now (c .before .before .before .before .before .before .before .before .before .before .before .before .before .args .text) in
-    let e = c .before .before .before .before .before .before .before .line-end .result in
-    let k = turn s (l .at) e (c .before .before .before .before .before .before .before .before .loop-test .taken) (c .before .before .before .before .before .before .before .line-end .ensures .0) in
-    let g = sym (c .before .before .before .before .read-line .ensures .0) ∙ ap lineOutcome (c .enum-told .given .1) in
-    sym (l .inv .1 ∙ rw (k, g, c .before .before .before .before .read-line .ensures .1, g))
+returns c =
+    let read = c .before .before .before .before in
+    let line = read .before .before .before in
+    let l = line .before .before .loop in
+    let s = now (line .before .before .before .before .before .before .args .text) in
+    let k = turn s (l .at) (line .line-end .result) (line .before .loop-test .taken) (line .line-end .ensures .0) in
+    let g = sym (read .read-line .ensures .0) ∙ ap lineOutcome (c .enum-told .given .1) in
+    sym (l .inv .1 ∙ rw (k, g, read .read-line .ensures .1, g))
 
 same-length-2 : tie.Need-same-length-2 Inv-loop μ-loop
 same-length-2 c = c .before .loop .inv .2
 
 returns-2 : tie.Need-returns-2 Inv-loop μ-loop
 unfolding linesBuffer lines
-returns-2 c = sym (c .before .loop .inv .1 ∙ rw (drop-of-length-le (now (c .before .before .before .before .before .args .text)) (c .loop-test .left)))
+returns-2 c =
+    let s = now (c .before .before .before .before .before .args .text) in
+    sym (c .before .loop .inv .1 ∙ rw (drop-of-length-le s (c .loop-test .left)))
 
 pub write-lines-spec : {M : Type 1} → statement M
 write-lines-spec =

@@ -1,4 +1,4 @@
--- `compare` is safe: the part of the text that is lent is as long as asked.
+-- The part of the text that is lent is as long as asked.
 -- Assumes nothing.
 use mathlib.Core.Path.{sym}
 use lib.Seq.{length-take-le}
@@ -20,12 +20,6 @@ read-full-requires c κs = search needs
 
 read-byte-requires : tie.Need-read-byte-requires
 read-byte-requires c κs = search needs
-
-read-number-requires : tie.Need-read-number-requires
-read-number-requires c κs = search needs
-
-length-of-requires : tie.Need-length-of-requires
-length-of-requires c κs = search needs
 
 slice-aggregate-read-edits : tie.Need-slice-aggregate-read-edits
 slice-aggregate-read-edits c = search needs
@@ -63,8 +57,6 @@ compare-spec =
     slice-aggregate-read-full
     read-full-requires
     read-byte-requires
-    read-number-requires
-    length-of-requires
     slice-aggregate-read-edits
     read-edits-requires
     add-step

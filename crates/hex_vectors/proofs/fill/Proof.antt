@@ -1,4 +1,4 @@
--- `fill` is safe and ends.
+-- Every byte that is stored lies within the image: the measure is what is left of it.
 -- Assumes nothing.
 use mathlib.Core.Path.{_≡_, refl}
 use Prim.Native.Nat.{_≤_, _-_}

@@ -1,4 +1,4 @@
--- `read_pieces` is safe and ends.
+-- Every piece lies within the text: the measure is what is left of it.
 -- Assumes nothing.
 use mathlib.Core.Path.{_≡_, refl, _∙_}
 use Prim.Native.Nat.{_≤_, _-_}
@@ -38,7 +38,8 @@ loop-less : tie.Need-loop-less Inv-loop μ-loop
 loop-less c = search needs
 
 loop-again : tie.Need-loop-again Inv-loop μ-loop
-loop-again c = (search needs, c .before .image .given ∙ c .before .before .before .before .before .before .before .loop .inv .1)
+loop-again c = let b = c .before .before .before in
+    (search needs, c .before .image .given ∙ b .before .before .before .before .loop .inv .1)
 
 finish-requires : tie.Need-finish-requires Inv-loop μ-loop
 finish-requires c κs = search needs

@@ -19,23 +19,31 @@ returns c = rw (sym (c .before .is-image-length .ensures) ∙ not-true _ (c .if1
 
 returns-2 : tie.Need-returns-2
 unfolding writeAnswer writeBuffer
-returns-2 c = rw ((sym (c .before .before .is-image-length .ensures) ∙ not-false _ (c .before .if1 .left)), lt-ltb _ _ (c .if2 .taken)) (refl, (refl, tt))
+returns-2 c =
+    rw (sym (c .before .before .is-image-length .ensures) ∙ not-false _ (c .before .if1 .left), lt-ltb _ _ (c .if2 .taken))
+    (refl, (refl, tt))
 
 write-lines-requires : tie.Need-write-lines-requires
-write-lines-requires c κs = (eqb-true _ _ (sym (c .before .before .before .is-image-length .ensures) ∙ not-false _ (c .before .before .if1 .left)), search needs)
+write-lines-requires c κs =
+    (eqb-true _ _ (sym (c .before .before .before .is-image-length .ensures) ∙ not-false _ (c .before .before .if1 .left)), search needs)
 
 same-length : tie.Need-same-length
 same-length c = search needs
 
 returns-3 : tie.Need-returns-3
 unfolding writeAnswer writeBuffer
-returns-3 c = let a = c .before .before .before .before .before .before .before .before .before .args in
-    rw ((sym (c .before .before .before .before .before .before .is-image-length .ensures) ∙ not-false _ (c .before .before .before .before .before .if1 .left)), le-ltb _ _ (c .before .before .before .before .if2 .left)) (
+returns-3 c =
+    let tests = c .before .before .before .before in
+    let known = tests .before .before .before .before in
+    let a = known .before .args in
+    let whole = sym (tests .before .before .is-image-length .ensures) ∙ not-false _ (tests .before .if1 .left) in
+    let written = c .before .before .write-lines .ensures in
+    rw (whole, le-ltb _ _ (tests .if2 .left)) (
       refl,
       (
-        c .before .before .write-lines .ensures,
-        rw (c .before .before .write-lines .ensures)
-            (reads-back (now (a .image)) (drop textLength (now (a .out))) (eqb-true _ _ (sym (c .before .before .before .before .before .before .is-image-length .ensures) ∙ not-false _ (c .before .before .before .before .before .if1 .left))) (λ i. c .before .before .before .before .before .before .before .before .shared-slice-known .given i .fits)),
+        written,
+        rw written
+            (reads-back (now (a .image)) (drop textLength (now (a .out))) (eqb-true _ _ whole) (λ i. known .shared-slice-known .given i .fits)),
       ),
     )
 

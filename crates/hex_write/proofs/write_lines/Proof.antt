@@ -46,8 +46,10 @@ loop-less : tie.Need-loop-less Inv-loop μ-loop
 loop-less c = search needs
 
 loop-again : tie.Need-loop-again Inv-loop μ-loop
-loop-again c = let a = c .before .before .before .before .before .before .before .before .args in
-    let l = c .before .before .before .before .before .loop in
+loop-again c =
+    let turn = c .before .before .before .before .before in
+    let l = turn .loop in
+    let a = turn .before .before .before .args in
     let m = now (a .image) in
     let e : (l .k + 1) * 44 ≡ l .k * 44 + 44 = omega arith in (
       search needs,
@@ -75,12 +77,15 @@ same-length c = c .before .out2 .given .1 ∙ c .before .before .before .before 
 
 returns : tie.Need-returns Inv-loop μ-loop
 unfolding imageText
-returns c = let a = c .before .before .before .before .before .before .before .before .args in
-    let l = c .before .before .before .before .before .loop in
+returns c =
+    let turn = c .before .before .before .before .before in
+    let l = turn .loop in
+    let a = turn .before .before .before .args in
     let m = now (a .image) in
     let e : l .k ≡ recordCount = omega arith in
     let g : l .out ≡ records m recordCount ++ drop (recordCount * 44) (now (a .out)) = rw e at (l .inv .1) in
-    rw (c .before .before .write-end .ensures) (line-back (records m recordCount) endLine (l .out) (now (a .out)) (recordCount * 44) 12 (length-records m recordCount) g)
+    rw (c .before .before .write-end .ensures)
+    (line-back (records m recordCount) endLine (l .out) (now (a .out)) (recordCount * 44) 12 (length-records m recordCount) g)
 
 pub write-lines-spec : {M : Type 1} → statement M
 write-lines-spec =

@@ -52,7 +52,9 @@ add-out-2 : tie.Need-add-out-2 Inv-loop μ-loop
 add-out-2 c = search needs
 
 slice-write-out-3 : tie.Need-slice-write-out-3 Inv-loop μ-loop
-slice-write-out-3 c = simp length-set (omega (arith, length-set (now (c .before .before .before .before .before .before .before .args .out)) 0 58))
+slice-write-out-3 c =
+    let start = c .before .before .before .before .before .before in
+    simp length-set (omega (arith, length-set (now (start .before .args .out)) 0 58))
 
 add-j : tie.Need-add-j Inv-loop μ-loop
 add-j c = search needs
@@ -61,8 +63,10 @@ loop-less : tie.Need-loop-less Inv-loop μ-loop
 loop-less c = search needs
 
 loop-again : tie.Need-loop-again Inv-loop μ-loop
-loop-again c = let a = c .before .before .before .before .before .before .before .args in
-    let l = c .before .before .before .before .loop in
+loop-again c =
+    let turn = c .before .before .before .before in
+    let l = turn .loop in
+    let a = turn .before .before .before .args in
     let m = now (a .image) in
     let o = set (now (a .out)) 0 58 in
     let b = c .before .before .record-byte in
@@ -83,14 +87,19 @@ same-length c = rw length-set (c .before .loop .inv .2 ∙ length-set (now (c .b
 
 returns : tie.Need-returns Inv-loop μ-loop
 unfolding recordLine
-returns c = let a = c .before .before .before .before .args in
+returns c =
+    let a = c .before .before .before .before .args in
     let l = c .before .loop in
     let m = now (a .image) in
     let o = set (now (a .out)) 0 58 in
     let e : l .j ≡ 21 = omega arith in
     let g : l .out ≡ (58 ∷ digits m (a .k) 21) ++ drop 43 o = rw e at (l .inv .1) in
     let n : length (58 ∷ digits m (a .k) 21) ≡ 43 = omega (arith, length-digits m (a .k) 21) in
-    rw (g, store-next (58 ∷ digits m (a .k) 21) o 43 10 n (omega (arith, length-set (now (a .out)) 0 58)), drop-set-lt 44 (now (a .out)) 0 58 (omega arith))
+    rw (
+      g,
+      store-next (58 ∷ digits m (a .k) 21) o 43 10 n (omega (arith, length-set (now (a .out)) 0 58)),
+      drop-set-lt 44 (now (a .out)) 0 58 (omega arith),
+    )
 
 pub write-record-spec : {M : Type 1} → statement M
 write-record-spec =

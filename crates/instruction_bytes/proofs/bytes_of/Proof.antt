@@ -1,3 +1,5 @@
+-- Each form's arm is the definition's clause of that form.
+-- Assumes nothing.
 use borrow.Author.Needs.{needs}
 use Rattle.instruction_bytes.proofs.bytes_of.Statement.{statement}
 use Rattle.instruction_bytes.proofs.bytes_of.Tie as tie

@@ -1,3 +1,5 @@
+-- A row below 16 makes the opcode before the address; above it is 8.
+-- Assumes nothing.
 use borrow.Author.Tests.{lt-ltb, le-ltb}
 use borrow.Author.Needs.{needs}
 use Rattle.instruction_bytes.proofs.in_row_address.Statement.{statement}

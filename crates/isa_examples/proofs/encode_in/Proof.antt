@@ -1,3 +1,5 @@
+-- The part of the buffer that is lent is as long as asked.
+-- Assumes nothing.
 use native.Mathlib.Omega.{arith}
 use lib.ListN.{length-take}
 use borrow.Author.Needs.{needs}

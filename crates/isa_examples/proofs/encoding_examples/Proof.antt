@@ -1,3 +1,5 @@
+-- All 14 examples come: the measure is the number of those left.
+-- Assumes nothing.
 use Prim.Native.Nat.{_≤_, _-_}
 use borrow.Author.Needs.{needs}
 use Rattle.isa_examples.proofs.encoding_examples.Statement.{statement}

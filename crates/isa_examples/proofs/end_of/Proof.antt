@@ -1,3 +1,5 @@
+-- The search stays within the names: the measure is what is left of them.
+-- Assumes nothing.
 use Prim.Native.Nat.{_-_}
 use lib.ListN.{length}
 use borrow.Author.Needs.{needs}

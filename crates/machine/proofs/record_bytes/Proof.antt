@@ -1,3 +1,4 @@
+-- Eight bytes read one by one are the slice.
 use Rattle.machine.proofs.Joins.{record-elements}
 use borrow.Author.Needs.{needs}
 use Rattle.machine.proofs.record_bytes.Statement.{statement}
@@ -28,7 +29,9 @@ shared-slice-read-t17 : tie.Need-shared-slice-read-t17
 shared-slice-read-t17 c = search needs
 
 returns : tie.Need-returns
-returns c = record-elements _ (c .before .before .before .before .before .before .before .before .pre)
+returns c =
+    let fourth = c .before .before .before .before in
+    record-elements _ (fourth .before .before .before .before .pre)
 
 pub record-bytes-spec : {M : Type 1} → statement M
 record-bytes-spec =

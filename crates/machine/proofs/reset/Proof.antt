@@ -1,3 +1,4 @@
+-- The state is the one defined, which is a reset state.
 use mathlib.Core.Path.{refl}
 use Rattle.semantics.specs.Reset.{resetState}
 use Rattle.semantics.specs.ResetLaws.{reset-is-reset}

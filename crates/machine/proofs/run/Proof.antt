@@ -1,3 +1,4 @@
+-- A wrong length is refused by 7 with nothing done; else the records are run, and steps and cycles are counted.
 use Rattle.machine.specs.Count.{counts-too}
 use mathlib.Core.Path.{sym, _∙_}
 use borrow.Author.Tests.{eq-eqb, eqb-true, ne-eqb, not-true, not-false}

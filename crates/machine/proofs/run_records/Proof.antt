@@ -1,3 +1,4 @@
+-- The records done so far and the run from there on make the whole run; each return is the definition's case of the tests before it.
 use borrow.Author.Needs.{needs}
 use Rattle.base.specs.Lengths.{romLength, recordLength}
 use Rattle.entry.specs.InPlace.{stateWith, stepped}
@@ -52,16 +53,39 @@ state-with-requires : tie.Need-state-with-requires Inv-loop μ-loop
 state-with-requires c κs = search needs
 
 returns : tie.Need-returns Inv-loop μ-loop
-returns c = simp (c .state-with .ensures) (sym (stops _ _ _ _ _ (stepped _ (c .before .before .before .before .step-in-place .result)) (c .before .before .before .before .before .before .before .before .before .before .loop .inv .2) (c .before .before .before .before .before .before .before .before .before .before .loop .inv .1) (omega (arith, c .before .before .before .before .before .before .before .before .before .loop-test .taken)) (c .before .before .before .before .step-in-place .ensures .0 ∙ simp (c .before .before .before .before .before .before .before .record-bytes .ensures)) (c .before .if1 .taken)) ∙ (c .before .before .before .before .before .before .before .before .before .before .loop .inv .3 ∙ simp (c .before .before .before .before .before .before .before .before .before .before .before .core-of .ensures)))
+returns c =
+    let stepped-now = c .before .before .before .before in
+    let loop = stepped-now .before .before .before .before .before .before in
+    simp (c .state-with .ensures)
+    (sym
+    (stops _ _ _ _ _ (stepped _ (stepped-now .step-in-place .result)) (loop .loop .inv .2) (loop .loop .inv .1)
+    (omega (arith, stepped-now .before .before .before .before .before .loop-test .taken))
+    (stepped-now .step-in-place .ensures .0 ∙ simp (stepped-now .before .before .before .record-bytes .ensures))
+    (c .before .if1 .taken))
+    ∙ (loop .loop .inv .3 ∙ simp (loop .before .core-of .ensures)))
 
 add-i : tie.Need-add-i Inv-loop μ-loop
-add-i c = omega (arith, c .before .before .before .before .before .before .before .before)
+add-i c =
+    let tested = c .before .before .before .before in
+    omega (arith, tested .before .before .before .before)
 
 loop-less : tie.Need-loop-less Inv-loop μ-loop
 loop-less c = omega arith
 
 loop-again : tie.Need-loop-again Inv-loop μ-loop
-loop-again c = (omega arith, search needs, search needs, sym (goes-on _ _ _ _ _ (stepped _ (c .before .before .before .step-in-place .result)) (c .before .before .before .before .before .before .before .before .before .loop .inv .2) (c .before .before .before .before .before .before .before .before .before .loop .inv .1) (omega (arith, c .before .before .before .before .before .before .before .before .loop-test .taken)) (c .before .before .before .step-in-place .ensures .0 ∙ simp (c .before .before .before .before .before .before .record-bytes .ensures)) (c .if1 .left)) ∙ c .before .before .before .before .before .before .before .before .before .loop .inv .3)
+loop-again c =
+    let stepped-now = c .before .before .before in
+    let loop = stepped-now .before .before .before .before .before .before in (
+      omega arith,
+      search needs,
+      search needs,
+      sym
+          (goes-on _ _ _ _ _ (stepped _ (stepped-now .step-in-place .result)) (loop .loop .inv .2) (loop .loop .inv .1)
+          (omega (arith, stepped-now .before .before .before .before .before .loop-test .taken))
+          (stepped-now .step-in-place .ensures .0 ∙ simp (stepped-now .before .before .before .record-bytes .ensures))
+          (c .if1 .left))
+          ∙ loop .loop .inv .3,
+    )
 
 state-with-requires-2 : tie.Need-state-with-requires-2 Inv-loop μ-loop
 state-with-requires-2 c κs = search needs

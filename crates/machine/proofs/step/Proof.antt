@@ -1,3 +1,4 @@
+-- A wrong length is refused by 7; else it is the step in place on the state's registers.
 use Rattle.machine.proofs.Joins.{step-right}
 use mathlib.Core.Path.{sym, _∙_}
 use Rattle.semantics.specs.Step.{stepOf}
@@ -30,7 +31,16 @@ state-with-requires : tie.Need-state-with-requires
 state-with-requires c κs = search needs
 
 returns-3 : tie.Need-returns-3
-returns-3 c = simp (c .state-with .ensures) (c .before .before .step-in-place .ensures .0 ∙ (simp (c .before .before .before .before .before .core-of .ensures, c .before .before .before .before .before .before .record-bytes .ensures) (sym (step-right _ _ _ (eqb-true _ _ (sym (c .before .before .before .before .before .before .before .before .before .before .is-image-length .ensures) ∙ not-false _ (c .before .before .before .before .before .before .before .before .before .if1 .left))) (c .before .before .before .before .before .before .before .before .if2 .left)))))
+returns-3 c =
+    let bytes = c .before .before .before .before .before .before in
+    let tested = bytes .before .before in
+    let image = tested .before .before in
+    simp (c .state-with .ensures)
+    (c .before .before .step-in-place .ensures .0
+    ∙ (simp (c .before .before .before .before .before .core-of .ensures, bytes .record-bytes .ensures)
+    (sym
+    (step-right _ _ _ (eqb-true _ _ (sym (image .is-image-length .ensures) ∙ not-false _ (tested .before .if1 .left)))
+    (tested .if2 .left)))))
 
 pub step-spec : {M : Type 1} → statement M
 step-spec =

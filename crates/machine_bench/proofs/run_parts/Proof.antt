@@ -1,3 +1,5 @@
+-- Every part is run: the measure is the number of parts left.
+-- Assumes nothing.
 use Prim.Native.Nat.{_-_}
 use borrow.Author.Needs.{needs}
 use Rattle.machine_bench.proofs.run_parts.Statement.{statement}

@@ -1,3 +1,5 @@
+-- Every record of the schedule lies within it: the measure is the number of records left.
+-- Assumes nothing.
 use Prim.Native.Nat.{_≤_, _-_}
 use borrow.Author.Needs.{needs}
 use Rattle.machine_bench.proofs.schedule.Statement.{statement}

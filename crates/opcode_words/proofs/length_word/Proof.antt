@@ -1,4 +1,4 @@
--- `opcode_words::length_word` meets its contract.
+-- Each row's arm is the definition's number of that row; the last arm is that of row F.
 -- Assumes nothing.
 use Rattle.base.specs.ChoiceLaws.{choose-miss}
 use Rattle.opcode_words.proofs.length_word.Statement.{statement}
@@ -53,4 +53,22 @@ returns-16 : tie.Need-returns-16
 returns-16 c = search choose-miss
 
 pub length-word-spec : {M : Type 1} → statement M
-length-word-spec = tie.close (tie.spec returns returns-2 returns-3 returns-4 returns-5 returns-6 returns-7 returns-8 returns-9 returns-10 returns-11 returns-12 returns-13 returns-14 returns-15 returns-16)
+length-word-spec =
+    tie.close
+    (tie.spec
+    returns
+    returns-2
+    returns-3
+    returns-4
+    returns-5
+    returns-6
+    returns-7
+    returns-8
+    returns-9
+    returns-10
+    returns-11
+    returns-12
+    returns-13
+    returns-14
+    returns-15
+    returns-16)

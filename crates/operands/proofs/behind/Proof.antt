@@ -1,3 +1,4 @@
+-- The next register address, modulo 256.
 use borrow.Author.Needs.{needs}
 use Rattle.operands.proofs.behind.Statement.{statement}
 use Rattle.operands.proofs.behind.Tie as tie

@@ -1,3 +1,4 @@
+-- A register's or pointer's byte is read at its place; a number is itself.
 use Rattle.semantics.specs.Operands.{fetchOf}
 use borrow.Author.Needs.{needs}
 use Rattle.operands.proofs.fetch.Statement.{statement}

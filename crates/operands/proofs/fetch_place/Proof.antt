@@ -1,3 +1,4 @@
+-- What is read at a place, with the place's own flag.
 use Rattle.semantics.specs.Operands.{fetchPlace}
 use borrow.Author.Needs.{needs}
 use Rattle.operands.proofs.fetch_place.Statement.{statement}

@@ -1,3 +1,4 @@
+-- The number is 0, or 13 where a register was not mapped.
 use borrow.Author.Needs.{needs}
 use Rattle.operands.proofs.goes_on.Statement.{statement}
 use Rattle.operands.proofs.goes_on.Tie as tie

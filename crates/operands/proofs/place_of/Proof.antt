@@ -1,3 +1,4 @@
+-- Each kind of operand has the place that is defined, the pointer's byte and the offset added modulo 256.
 use Rattle.semantics.specs.Operands.{placeOf}
 use borrow.Author.Needs.{needs}
 use Rattle.operands.proofs.place_of.Statement.{statement}
@@ -33,7 +34,9 @@ returns c = simp (c .mapped .ensures, c .before .before .o .given .1)
 
 returns-2 : tie.Need-returns-2
 unfolding placeOf
-returns-2 c = simp (c .mapped3 .ensures, c .before .mapped2 .ensures, c .before .before .wrapping-add-u8 .ensures, c .before .before .before .load .ensures, c .before .before .before .before .before .o2 .given .1)
+returns-2 c =
+    let loaded = c .before .before .before in
+    simp (c .mapped3 .ensures, c .before .mapped2 .ensures, c .before .before .wrapping-add-u8 .ensures, loaded .load .ensures, loaded .before .before .o2 .given .1)
 
 returns-3 : tie.Need-returns-3
 unfolding placeOf

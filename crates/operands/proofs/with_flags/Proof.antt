@@ -1,3 +1,4 @@
+-- FLAGS alone changes, by the named flags over what it held.
 use Rattle.semantics.specs.Operands.{withFlags}
 use borrow.Author.Needs.{needs}
 use Rattle.operands.proofs.with_flags.Statement.{statement}

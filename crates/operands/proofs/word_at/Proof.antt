@@ -1,3 +1,4 @@
+-- High half from the register, low half from the one behind it.
 use Rattle.semantics.specs.Operands.{wordAt}
 use borrow.Author.Needs.{needs}
 use Rattle.operands.proofs.word_at.Statement.{statement}

@@ -1,3 +1,4 @@
+-- A word is mapped where both of its registers are.
 use Rattle.semantics.specs.Operands.{wordMapped}
 use borrow.Author.Needs.{needs}
 use Rattle.operands.proofs.word_mapped.Statement.{statement}

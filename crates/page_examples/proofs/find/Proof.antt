@@ -1,4 +1,4 @@
--- `find` is safe and ends: the measure is what is left of the text.
+-- The search ends: the measure is what is left of the text.
 use Prim.Native.Nat.{_-_}
 use borrow.Author.Needs.{needs}
 use Rattle.page_examples.proofs.find.Statement.{statement}

@@ -1,4 +1,4 @@
--- `first_difference` is safe and ends: the measure is the number of registers left.
+-- Every register is compared: the measure is the number of registers left.
 use Prim.Native.Nat.{_≤_, _-_}
 use borrow.Author.Needs.{needs}
 use Rattle.page_examples.proofs.first_difference.Statement.{statement}

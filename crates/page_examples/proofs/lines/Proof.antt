@@ -1,4 +1,4 @@
--- `lines` is safe and ends: the measure is the number of turns left.
+-- The lines end: the measure is the number of turns left.
 use borrow.Author.Needs.{needs}
 use Rattle.page_examples.proofs.lines.Statement.{statement}
 use Rattle.page_examples.proofs.lines.Tie as tie

@@ -1,4 +1,4 @@
--- `open_registers` is safe and ends: the measure is the number of RAM registers left.
+-- Every register that is stored lies in RAM: the measure is the number of RAM registers left.
 use Prim.Native.Nat.{_≤_, _-_}
 use borrow.Author.Needs.{needs}
 use Rattle.page_examples.proofs.open_registers.Statement.{statement}

@@ -1,4 +1,4 @@
--- `words` is safe and ends: the measure is the number of turns left.
+-- The words of a line end: the measure is the number of turns left.
 use borrow.Author.Needs.{needs}
 use Rattle.page_examples.proofs.words.Statement.{statement}
 use Rattle.page_examples.proofs.words.Tie as tie

@@ -79,9 +79,11 @@ write-decimal-returns-2 : (t : ℕ) → write-decimal-lts.Need-returns-2 (
   write-decimal-below t,
   write-decimal.Post,
 ) (write-decimal-at t) write-decimal.Post
-write-decimal-returns-2 t c = let a = c .before .before .before .before .before .before .before .args in
-    let p : 0 < a .k = pos-of-ne-zero (c .before .before .before .before .before .if1 .left) in
-    rw (decimal-last (a .k) (a .x) p (c .before .before .before .before .if2 .taken)) (c .before .before .write-byte .ensures)
+write-decimal-returns-2 t c =
+    let w = c .before .before in
+    let a = w .before .before .before .before .before .args in
+    let p : 0 < a .k = pos-of-ne-zero (w .before .before .before .if1 .left) in
+    rw (decimal-last (a .k) (a .x) p (w .before .before .if2 .taken)) (w .write-byte .ensures)
 
 write-decimal-sub-write-decimal : (t : ℕ) → write-decimal-lts.Need-sub-write-decimal (
   write-byte-reads.Asked,
@@ -121,8 +123,10 @@ write-decimal-write-byte-requires-2 : (t : ℕ) → write-decimal-lts.Need-write
   write-decimal-below t,
   write-decimal.Post,
 ) (write-decimal-at t) write-decimal.Post
-write-decimal-write-byte-requires-2 t c κs = let a = c .before .before .before .before .before .before .before .before .args in
-    omega (arith, decimal-length (a .k - 1) (a .x / 10), c .before .before .before .before .before .before .before .before .pre, c .before .before .before .write-decimal .kept .0)
+write-decimal-write-byte-requires-2 t c κs =
+    let w = c .before .before .before in
+    let start = w .before .before .before .before .before in
+    omega (arith, decimal-length (start .args .k - 1) (start .args .x / 10), start .pre, w .write-decimal .kept .0)
 
 write-decimal-same-length-2 : (t : ℕ) → write-decimal-lts.Need-same-length-2 (
   write-byte-reads.Asked,
@@ -138,10 +142,12 @@ write-decimal-returns-3 : (t : ℕ) → write-decimal-lts.Need-returns-3 (
   write-decimal-below t,
   write-decimal.Post,
 ) (write-decimal-at t) write-decimal.Post
-write-decimal-returns-3 t c = let a = c .before .before .before .before .before .before .before .before .before .before .before .args in
-    let p : 0 < a .k = pos-of-ne-zero (c .before .before .before .before .before .before .before .before .before .if1 .left) in
-    rw (decimal-more (a .k) (a .x) p (c .before .before .before .before .before .before .before .before .if2 .left))
-    (stored-more (c .before .before .before .before .before .before .write-decimal .ensures) (c .before .before .write-byte2 .ensures))
+write-decimal-returns-3 t c =
+    let w = c .before .before .before .before .before .before in
+    let a = w .before .before .before .before .before .args in
+    let p : 0 < a .k = pos-of-ne-zero (w .before .before .before .if1 .left) in
+    rw (decimal-more (a .k) (a .x) p (w .before .before .if2 .left))
+    (stored-more (w .write-decimal .ensures) (c .before .before .write-byte2 .ensures))
 
 pub +write-decimal-spec : {M : Type 1} → statement M
 +write-decimal-spec = close μ-write-decimal λ t. write-decimal-lts.spec (

@@ -32,16 +32,18 @@ add-n : tie.Need-add-n Inv-loop μ-loop
 add-n c = search needs
 
 write-routine-requires : tie.Need-write-routine-requires Inv-loop μ-loop
-write-routine-requires c κs = let l = c .before .before .loop in
-    let w = c .before .before .before .before .before .write-word in
+write-routine-requires c κs =
+    let l = c .before .before .loop in
+    let w = c .before .before .before .before .before in
+    let start = w .before .before .before .before .before in
     omega (
       arith,
-      rows-length (certificateOf (now (c .before .before .before .before .before .before .before .before .before .before .args .cert))) (l .n),
+      rows-length (certificateOf (now (start .args .cert))) (l .n),
       l .inv .1 .position,
       stored-length (l .inv .1),
-      w .ensures .position,
-      w .kept .0,
-      c .before .before .before .before .before .before .before .before .before .before .pre,
+      w .write-word .ensures .position,
+      w .write-word .kept .0,
+      start .pre,
     )
 
 loop-less : tie.Need-loop-less Inv-loop μ-loop

@@ -79,7 +79,16 @@ returns c = let at = c .before .before .before .before .before .args .at in
     record {
       position = refl;
       contents =
-          rw (e, f, g, h, c .before .before .before .hex-digit .ensures ∙ ap hexDigit first, c .before .before .hex-digit2 .ensures ∙ ap hexDigit (again (x / 256)), c .before .hex-digit3 .ensures ∙ ap hexDigit (again (x / 16)), c .hex-digit4 .ensures ∙ ap hexDigit (again x));
+          rw (
+            e,
+            f,
+            g,
+            h,
+            c .before .before .before .hex-digit .ensures ∙ ap hexDigit first,
+            c .before .before .hex-digit2 .ensures ∙ ap hexDigit (again (x / 256)),
+            c .before .hex-digit3 .ensures ∙ ap hexDigit (again (x / 16)),
+            c .hex-digit4 .ensures ∙ ap hexDigit (again x),
+          );
     }
 
 pub write-address-spec : {M : Type 1} → statement M

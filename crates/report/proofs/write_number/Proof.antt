@@ -12,8 +12,16 @@ write-decimal-requires : tie.Need-write-decimal-requires
 write-decimal-requires c κs = search needs
 
 write-byte-requires : tie.Need-write-byte-requires
-write-byte-requires c κs = let a = c .before .before .before .before .before .before .args in
-    omega (arith, decimal-length (a .k) (a .x), c .before .before .before .before .before .before .pre, c .before .before .before .write-decimal .ensures .position, c .before .before .before .write-decimal .kept .0)
+write-byte-requires c κs =
+    let w = c .before .before .before in
+    let start = w .before .before .before in
+    omega (
+      arith,
+      decimal-length (start .args .k) (start .args .x),
+      start .pre,
+      w .write-decimal .ensures .position,
+      w .write-decimal .kept .0,
+    )
 
 same-length : tie.Need-same-length
 same-length c = search needs

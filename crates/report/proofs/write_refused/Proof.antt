@@ -18,16 +18,29 @@ write-number-requires : tie.Need-write-number-requires
 write-number-requires c κs = search needs
 
 write-address-requires : tie.Need-write-address-requires
-write-address-requires c κs = let w = c .before .before .before .write-number in
-    let v = c .before .before .before .before .before .before .before .write-word in
-    omega (arith, number-length 3 (c .before .before .before .before .before .before .before .before .before .before .before .args .number) 32, c .before .before .before .before .before .before .before .before .before .before .before .pre, w .ensures .position, w .kept .0, v .ensures .position, v .kept .0)
+write-address-requires c κs =
+    let v = c .before .before .before in
+    let w = v .before .before .before .before in
+    let start = w .before .before .before .before in
+    omega (
+      arith,
+      number-length 3 (start .args .number) 32,
+      start .pre,
+      w .write-word .ensures .position,
+      w .write-word .kept .0,
+      v .write-number .ensures .position,
+      v .write-number .kept .0,
+    )
 
 same-length : tie.Need-same-length
 same-length c = search needs
 
 returns : tie.Need-returns
 unfolding refusedText
-returns c = stored-more (c .before .before .before .before .before .before .before .before .before .before .write-word .ensures) (stored-more (c .before .before .before .before .before .before .write-number .ensures) (c .before .before .write-address .ensures))
+returns c =
+    let v = c .before .before .before .before .before .before in
+    stored-more (v .before .before .before .before .write-word .ensures)
+    (stored-more (v .write-number .ensures) (c .before .before .write-address .ensures))
 
 pub write-refused-spec : {M : Type 1} → statement M
 write-refused-spec =

@@ -15,32 +15,47 @@ write-number-requires : tie.Need-write-number-requires
 write-number-requires c κs = search needs
 
 write-address-requires : tie.Need-write-address-requires
-write-address-requires c κs = let w = c .before .before .before .write-number in
-    omega (arith, number-length 2 (c .before .before .before .before .before .before .before .before .before .args .n) 32, c .before .before .before .before .before .before .before .before .before .pre, w .ensures .position, w .kept .0)
+write-address-requires c κs =
+    let w = c .before .before .before in
+    let start = w .before .before .before .before .before .before in
+    omega (arith, number-length 2 (start .args .n) 32, start .pre, w .write-number .ensures .position, w .write-number .kept .0)
 
 cast-write-number : tie.Need-cast-write-number
 cast-write-number c = search needs
 
 write-number-requires-2 : tie.Need-write-number-requires-2
-write-number-requires-2 c κs = let w = c .before .before .before .before .before .before .before .before .write-number in
-    let v = c .before .before .before .before .write-address in
-    omega (arith, number-length 2 (c .before .before .before .before .before .before .before .before .before .before .before .before .before .before .args .n) 32, c .before .before .before .before .before .before .before .before .before .before .before .before .before .before .pre, w .ensures .position, w .kept .0, v .ensures .position, v .kept .0)
-
-write-number-requires-3 : tie.Need-write-number-requires-3
-write-number-requires-3 c κs = let w = c .before .before .before .before .before .before .before .before .before .before .before .before .write-number in
-    let v = c .before .before .before .before .before .before .before .before .write-address in
-    let u = c .before .before .before .write-number2 in
+write-number-requires-2 c κs =
+    let v = c .before .before .before .before in
+    let w = v .before .before .before .before in
+    let start = w .before .before .before .before .before .before in
     omega (
       arith,
-      number-length 2 (c .before .before .before .before .before .before .before .before .before .before .before .before .before .before .before .before .before .before .args .n) 32,
-      number-length 3 (c .before .before .before .before .before .before .before .before .before .before .before .before .before .before .before .routine-row .result .need) 32,
-      c .before .before .before .before .before .before .before .before .before .before .before .before .before .before .before .before .before .before .pre,
-      w .ensures .position,
-      w .kept .0,
-      v .ensures .position,
-      v .kept .0,
-      u .ensures .position,
-      u .kept .0,
+      number-length 2 (start .args .n) 32,
+      start .pre,
+      w .write-number .ensures .position,
+      w .write-number .kept .0,
+      v .write-address .ensures .position,
+      v .write-address .kept .0,
+    )
+
+write-number-requires-3 : tie.Need-write-number-requires-3
+write-number-requires-3 c κs =
+    let u = c .before .before .before in
+    let v = u .before .before .before .before .before in
+    let w = v .before .before .before .before in
+    let row = w .before .before .before in
+    let start = row .before .before .before in
+    omega (
+      arith,
+      number-length 2 (start .args .n) 32,
+      number-length 3 (row .routine-row .result .need) 32,
+      start .pre,
+      w .write-number .ensures .position,
+      w .write-number .kept .0,
+      v .write-address .ensures .position,
+      v .write-address .kept .0,
+      u .write-number2 .ensures .position,
+      u .write-number2 .kept .0,
     )
 
 same-length : tie.Need-same-length
@@ -48,10 +63,14 @@ same-length c = search needs
 
 returns : tie.Need-returns
 unfolding rowText
-returns c = let fields =
-    stored-more (c .before .before .before .before .before .before .before .before .before .before .before .before .before .before .before .write-number .ensures)
-    (stored-more (c .before .before .before .before .before .before .before .before .before .before .before .write-address .ensures) (stored-more (c .before .before .before .before .before .before .write-number2 .ensures) (c .before .before .write-number3 .ensures))) in
-    rw (c .before .before .before .before .before .before .before .before .before .before .before .before .before .before .before .before .before .before .routine-row .ensures) at fields
+returns c =
+    let u = c .before .before .before .before .before .before in
+    let v = u .before .before .before .before .before in
+    let w = v .before .before .before .before in
+    let fields =
+    stored-more (w .write-number .ensures)
+    (stored-more (v .write-address .ensures) (stored-more (u .write-number2 .ensures) (c .before .before .write-number3 .ensures))) in
+    rw (w .before .before .before .routine-row .ensures) at fields
 
 pub write-row-spec : {M : Type 1} → statement M
 write-row-spec =

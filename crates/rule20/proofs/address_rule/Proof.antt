@@ -1,5 +1,8 @@
+-- An address without an entry is tested for zeros, one with an entry by its parts.
 use Rattle.safety.specs.Rules.{addressRule}
-use mathlib.Core.Bool.{and-assoc, or-assoc, Bool·not-not}
+use Rattle.certificate.specs.Layout.{certificateOf}
+use mathlib.Core.Path.{_∙_}
+use mathlib.Core.Bool.{Bool·not-not}
 use borrow.Author.Needs.{needs}
 use Rattle.rule20.proofs.address_rule.Statement.{statement}
 use Rattle.rule20.proofs.address_rule.Tie as tie
@@ -18,8 +21,13 @@ entry-rule-requires c κs = search needs
 
 returns : tie.Need-returns
 unfolding addressRule
-returns c = simp (c .entry-rule .ensures, c .before .empty-entry .ensures, c .before .before .entry-of .ensures, c .before .before .before .entry-part .ensures .1, and-assoc, or-assoc, Bool·not-not)
+returns c =
+    let b = c .before .before in
+    let g = b .before .before .before .args in
+    let C = certificateOf (g .cert .now) in
+    let a = g .a .0 in
+    let q = b .entry-of .ensures ∙ b .before .entry-part .ensures .1 in
+    simp (c .entry-rule .ensures a q, c .before .empty-entry .ensures C a q, q, Bool·not-not)
 
 pub address-rule-spec : {M : Type 1} → statement M
-address-rule-spec =
-    tie.close (tie.spec entry-part-requires entry-of-requires empty-entry-requires entry-rule-requires returns)
+address-rule-spec = tie.close (tie.spec entry-part-requires entry-of-requires empty-entry-requires entry-rule-requires returns)

@@ -1,3 +1,4 @@
+-- Every address passed holds; the loop stops at the first that does not.
 use Rattle.rule20.specs.Parts.{addressesRule}
 use Rattle.safety.specs.Rules.{addressRule}
 use borrow.Author.Count.{below-more}
@@ -28,7 +29,8 @@ unfolding addressesRule
 returns c =
     let C = certificateOf (c .before .before .before .before .before .args .cert .now) in
     let k = c .before .before .before .loop .a in
-    decide-no (addressesRule C) (λ f. decide-false (addressRule C k) (c .before .address-rule .ensures) (not-true _ (c .if1 .taken)) (f k (omega arith)))
+    let fails = decide-false (addressRule C k) (c .before .address-rule .ensures) (not-true _ (c .if1 .taken)) in
+    decide-no (addressesRule C) (λ f. fails (f k (omega arith)))
 
 add-a : tie.Need-add-a Inv-loop μ-loop
 add-a c = omega arith
@@ -40,7 +42,8 @@ loop-again : tie.Need-loop-again Inv-loop μ-loop
 loop-again c =
     let C = certificateOf (c .before .before .before .before .before .args .cert .now) in
     let k = c .before .before .before .loop .a in
-    (omega arith, below-more _ _ (c .before .before .before .loop .inv .1) (decide-true (addressRule C k) (c .before .address-rule .ensures) (not-false _ (c .if1 .left))))
+    let here = decide-true (addressRule C k) (c .before .address-rule .ensures) (not-false _ (c .if1 .left)) in
+    (omega arith, below-more _ _ (c .before .before .before .loop .inv .1) here)
 
 returns-2 : tie.Need-returns-2 Inv-loop μ-loop
 unfolding addressesRule

@@ -1,6 +1,5 @@
-use mathlib.Core.Bool.{and-assoc, or-assoc, Bool·not-not}
+-- The tests of a register's row are those of the definition.
 use Rattle.safety.specs.Rules.{cellRule}
-use mathlib.Core.Bool.{and-assoc, or-assoc, Bool·not-not}
 use borrow.Author.Needs.{needs}
 use Rattle.rule20.proofs.cell_rule.Statement.{statement}
 use Rattle.rule20.proofs.cell_rule.Tie as tie
@@ -16,7 +15,10 @@ mapped-requires c κs = search needs
 
 returns : tie.Need-returns
 unfolding cellRule
-returns c = simp (c .before .before .before .in-stack .ensures, c .before .before .before .before .mapped .ensures, c .before .before .before .before .before .before .before .before .cell-row .ensures, and-assoc, or-assoc, Bool·not-not)
+returns c =
+    let b = c .before .before .before in
+    let row = b .before .before .before .before .before in
+    simp (b .in-stack .ensures, b .before .mapped .ensures, row .cell-row .ensures)
 
 pub cell-rule-spec : {M : Type 1} → statement M
 cell-rule-spec = tie.close (tie.spec cell-row-requires mapped-requires in-stack-requires returns)

@@ -1,3 +1,4 @@
+-- Every register passed holds; the loop stops at the first that does not.
 use Rattle.rule20.specs.Parts.{cellsRule}
 use Rattle.safety.specs.Rules.{cellRule}
 use borrow.Author.Count.{below-more}
@@ -30,7 +31,8 @@ unfolding cellsRule
 returns c =
     let C = certificateOf (c .before .before .before .before .before .args .cert .now) in
     let k = c .before .before .before .loop .x in
-    decide-no (cellsRule C) (λ f. decide-false (cellRule C k) (c .before .cell-rule .ensures) (not-true _ (c .if1 .taken)) (f k (omega arith)))
+    let fails = decide-false (cellRule C k) (c .before .cell-rule .ensures) (not-true _ (c .if1 .taken)) in
+    decide-no (cellsRule C) (λ f. fails (f k (omega arith)))
 
 add-x : tie.Need-add-x Inv-loop μ-loop
 add-x c = omega arith
@@ -42,7 +44,8 @@ loop-again : tie.Need-loop-again Inv-loop μ-loop
 loop-again c =
     let C = certificateOf (c .before .before .before .before .before .args .cert .now) in
     let k = c .before .before .before .loop .x in
-    (omega arith, below-more _ _ (c .before .before .before .loop .inv .1) (decide-true (cellRule C k) (c .before .cell-rule .ensures) (not-false _ (c .if1 .left))))
+    let here = decide-true (cellRule C k) (c .before .cell-rule .ensures) (not-false _ (c .if1 .left)) in
+    (omega arith, below-more _ _ (c .before .before .before .loop .inv .1) here)
 
 returns-2 : tie.Need-returns-2 Inv-loop μ-loop
 unfolding cellsRule

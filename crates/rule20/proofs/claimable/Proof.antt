@@ -1,17 +1,9 @@
+-- A cell of RAM outside the stack whose class is the side is claimable at every address of that side.
 use Rattle.safety.specs.Rules.{claimable}
-use mathlib.Core.Bool.{and-assoc, or-assoc, Bool·not-not}
+use mathlib.Core.Bool.{and-assoc}
 use borrow.Author.Needs.{needs}
 use Rattle.rule20.proofs.claimable.Statement.{statement}
 use Rattle.rule20.proofs.claimable.Tie as tie
-
-entry-part-requires : tie.Need-entry-part-requires
-entry-part-requires c κs = search needs
-
-entry-of-requires : tie.Need-entry-of-requires
-entry-of-requires c κs = search needs
-
-routine-row-requires : tie.Need-routine-row-requires
-routine-row-requires c κs = search needs
 
 cell-row-requires : tie.Need-cell-row-requires
 cell-row-requires c κs = search needs
@@ -21,9 +13,8 @@ in-stack-requires c κs = search needs
 
 returns : tie.Need-returns
 unfolding claimable
-returns c = simp (c .before .before .in-stack .ensures, c .before .before .before .before .cell-row .ensures, c .before .before .before .before .before .routine-row .ensures, c .before .before .before .before .before .before .entry-of .ensures, c .before .before .before .before .before .before .before .entry-part .ensures .1, and-assoc, or-assoc, Bool·not-not)
+returns c a q =
+    simp (c .before .in-stack .ensures, c .before .before .before .cell-row .ensures, q, and-assoc)
 
 pub claimable-spec : {M : Type 1} → statement M
-claimable-spec =
-    tie.close
-    (tie.spec entry-part-requires entry-of-requires routine-row-requires cell-row-requires in-stack-requires returns)
+claimable-spec = tie.close (tie.spec cell-row-requires in-stack-requires returns)

@@ -1,14 +1,15 @@
+-- The row of the entry's routine gives the side that both claims and the compare are tested for.
 use Rattle.rule20.specs.Parts.{claimsRule}
-use mathlib.Core.Bool.{and-assoc, or-assoc, Bool·not-not}
+use Rattle.safety.specs.Rules.{sideAt}
+use Rattle.certificate.specs.Layout.{certificateOf}
+use mathlib.Core.Path.{_≡_}
+use mathlib.Core.Bool.{Bool·not-not}
 use borrow.Author.Needs.{needs}
 use Rattle.rule20.proofs.claims_rule.Statement.{statement}
 use Rattle.rule20.proofs.claims_rule.Tie as tie
 
-entry-part-requires : tie.Need-entry-part-requires
-entry-part-requires c κs = search needs
-
-entry-of-requires : tie.Need-entry-of-requires
-entry-of-requires c κs = search needs
+routine-row-requires : tie.Need-routine-row-requires
+routine-row-requires c κs = search needs
 
 claim-rule-requires : tie.Need-claim-rule-requires
 claim-rule-requires c κs = search needs
@@ -21,15 +22,12 @@ compare-rule-requires c κs = search needs
 
 returns : tie.Need-returns
 unfolding claimsRule
-returns c = simp (c .compare-rule .ensures, c .before .before .before .claim-rule2 .ensures, c .before .before .before .before .claim-rule .ensures, c .before .before .before .before .before .entry-of .ensures, c .before .before .before .before .before .before .entry-part .ensures .1, and-assoc, or-assoc, Bool·not-not)
+returns c a q =
+    let b = c .before .before .before in
+    let row = b .before .before in
+    let C = certificateOf (row .before .before .args .cert .now) in
+    let s : row .routine-row .result .side ≡ sideAt C a = simp (row .routine-row .ensures, q) in
+    simp (c .compare-rule .ensures a s q, b .claim-rule2 .ensures a s, b .before .claim-rule .ensures a s, q, Bool·not-not)
 
 pub claims-rule-spec : {M : Type 1} → statement M
-claims-rule-spec =
-    tie.close
-    (tie.spec
-    entry-part-requires
-    entry-of-requires
-    claim-rule-requires
-    claim-rule-requires-2
-    compare-rule-requires
-    returns)
+claims-rule-spec = tie.close (tie.spec routine-row-requires claim-rule-requires claim-rule-requires-2 compare-rule-requires returns)

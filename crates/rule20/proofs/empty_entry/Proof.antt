@@ -1,18 +1,12 @@
+-- The entry's tests for zero, gathered by field, are the definition's.
 use Rattle.safety.specs.Rules.{emptyEntry}
-use mathlib.Core.Bool.{and-assoc, or-assoc, Bool·not-not}
-use borrow.Author.Needs.{needs}
+use mathlib.Core.Bool.{and-assoc}
 use Rattle.rule20.proofs.empty_entry.Statement.{statement}
 use Rattle.rule20.proofs.empty_entry.Tie as tie
 
-entry-part-requires : tie.Need-entry-part-requires
-entry-part-requires c κs = search needs
-
-entry-of-requires : tie.Need-entry-of-requires
-entry-of-requires c κs = search needs
-
 returns : tie.Need-returns
 unfolding emptyEntry
-returns c = simp (c .before .before .before .before .before .before .before .before .before .before .before .before .entry-of .ensures, c .before .before .before .before .before .before .before .before .before .before .before .before .before .entry-part .ensures .1, and-assoc, or-assoc, Bool·not-not)
+returns c C a q = simp (q, and-assoc)
 
 pub empty-entry-spec : {M : Type 1} → statement M
-empty-entry-spec = tie.close (tie.spec entry-part-requires entry-of-requires returns)
+empty-entry-spec = tie.close (tie.spec returns)

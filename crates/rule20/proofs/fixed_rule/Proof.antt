@@ -1,5 +1,6 @@
+-- The stack's ends, then main's row and the service's, as the definition tests them.
 use Rattle.rule20.specs.Parts.{fixedRule}
-use mathlib.Core.Bool.{and-assoc, or-assoc, Bool·not-not}
+use mathlib.Core.Bool.{and-assoc}
 use borrow.Author.Needs.{needs}
 use Rattle.rule20.proofs.fixed_rule.Statement.{statement}
 use Rattle.rule20.proofs.fixed_rule.Tie as tie
@@ -18,7 +19,15 @@ service-rule-requires c κs = search needs
 
 returns : tie.Need-returns
 unfolding fixedRule
-returns c = simp (c .service-rule .ensures, c .before .main-rule .ensures, c .before .before .stack-top .ensures, c .before .before .before .stack-floor .ensures, and-assoc, or-assoc, Bool·not-not)
+returns c =
+    let b = c .before .before in
+    simp (
+      c .service-rule .ensures,
+      c .before .main-rule .ensures,
+      b .stack-top .ensures,
+      b .before .stack-floor .ensures,
+      and-assoc,
+    )
 
 pub fixed-rule-spec : {M : Type 1} → statement M
 fixed-rule-spec =

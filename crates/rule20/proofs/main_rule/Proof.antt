@@ -1,6 +1,6 @@
-use mathlib.Core.Bool.{and-assoc, or-assoc, Bool·not-not}
+-- The tests of row 0, main's row and its start are those of the definition.
 use Rattle.rule20.specs.Parts.{mainRule}
-use mathlib.Core.Bool.{and-assoc, or-assoc, Bool·not-not}
+use mathlib.Core.Bool.{and-assoc}
 use borrow.Author.Needs.{needs}
 use Rattle.rule20.proofs.main_rule.Statement.{statement}
 use Rattle.rule20.proofs.main_rule.Tie as tie
@@ -16,7 +16,7 @@ bare-rule-requires c κs = search needs
 
 returns : tie.Need-returns
 unfolding mainRule
-returns c = simp (c .bare-rule .ensures, c .before .used .ensures, c .before .before .before .before .before .routine-row .ensures, and-assoc, or-assoc, Bool·not-not)
+returns c = simp (c .bare-rule .ensures, c .before .used .ensures, c .before .before .before .before .before .routine-row .ensures, and-assoc)
 
 pub main-rule-spec : {M : Type 1} → statement M
 main-rule-spec = tie.close (tie.spec routine-row-requires used-requires bare-rule-requires returns)

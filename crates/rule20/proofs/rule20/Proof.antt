@@ -1,8 +1,8 @@
+-- Rule 20 is refused at the first part that fails, and holds if all four do.
 use Rattle.rule20.specs.Parts.{fixedRule, cellsRule, startsRule, addressesRule, rule20-split, rule20-join}
 use Rattle.safety.specs.Rules.{rule20}
 use Rattle.certificate.specs.Layout.{certificateOf}
 use Rattle.base.specs.Formula.{decide-yes, decide-no, decide-true, decide-false}
-use Prim.Native.Nat.{_-_}
 use borrow.Author.Tests.{not-true, not-false}
 use borrow.Author.Needs.{needs}
 use Rattle.rule20.proofs.rule20.Statement.{statement}
@@ -13,53 +13,60 @@ fixed-rule-requires c κs = search needs
 
 returns : tie.Need-returns
 returns c =
-    let C = certificateOf (c .before .before .before .before .args .cert .now) in
-    let image = c .before .before .before .before .args .image .now in
-    decide-no (rule20 C image) (λ m. decide-false (fixedRule C image) (c .before .fixed-rule .ensures) (not-true _ (c .if1 .taken)) (rule20-split C image m .0))
+    let g = c .before .before .before .before .args in
+    let C = certificateOf (g .cert .now) in
+    let image = g .image .now in
+    let fails = decide-false (fixedRule C image) (c .before .fixed-rule .ensures) (not-true _ (c .if1 .taken)) in
+    decide-no (rule20 C image) (λ m. fails (rule20-split C image m .0))
 
 cells-rule-requires : tie.Need-cells-rule-requires
 cells-rule-requires c κs = search needs
 
 returns-2 : tie.Need-returns-2
 returns-2 c =
-    let C = certificateOf (c .before .before .before .before .before .before .args .cert .now) in
-    let image = c .before .before .before .before .before .before .args .image .now in
-    decide-no (rule20 C image) (λ m. decide-false (cellsRule C) (c .before .cells-rule .ensures) (not-true _ (c .if2 .taken)) (rule20-split C image m .1))
+    let g = c .before .before .before .before .before .before .args in
+    let C = certificateOf (g .cert .now) in
+    let image = g .image .now in
+    let fails = decide-false (cellsRule C) (c .before .cells-rule .ensures) (not-true _ (c .if2 .taken)) in
+    decide-no (rule20 C image) (λ m. fails (rule20-split C image m .1))
 
 starts-rule-requires : tie.Need-starts-rule-requires
 starts-rule-requires c κs = search needs
 
 returns-3 : tie.Need-returns-3
 returns-3 c =
-    let C = certificateOf (c .before .before .before .before .before .before .before .before .args .cert .now) in
-    let image = c .before .before .before .before .before .before .before .before .args .image .now in
-    decide-no (rule20 C image) (λ m. decide-false (startsRule C) (c .before .starts-rule .ensures) (not-true _ (c .if3 .taken)) (rule20-split C image m .2))
+    let b = c .before .before .before .before in
+    let g = b .before .before .before .before .args in
+    let C = certificateOf (g .cert .now) in
+    let image = g .image .now in
+    let fails = decide-false (startsRule C) (c .before .starts-rule .ensures) (not-true _ (c .if3 .taken)) in
+    decide-no (rule20 C image) (λ m. fails (rule20-split C image m .2))
 
 addresses-rule-requires : tie.Need-addresses-rule-requires
 addresses-rule-requires c κs = search needs
 
 returns-4 : tie.Need-returns-4
 returns-4 c =
-    let C = certificateOf (c .before .before .before .before .before .before .before .before .before .before .args .cert .now) in
-    let image = c .before .before .before .before .before .before .before .before .before .before .args .image .now in
-    decide-no (rule20 C image) (λ m. decide-false (addressesRule C) (c .before .addresses-rule .ensures) (not-true _ (c .if4 .taken)) (rule20-split C image m .3))
+    let b = c .before .before .before .before .before .before in
+    let g = b .before .before .before .before .args in
+    let C = certificateOf (g .cert .now) in
+    let image = g .image .now in
+    let fails = decide-false (addressesRule C) (c .before .addresses-rule .ensures) (not-true _ (c .if4 .taken)) in
+    decide-no (rule20 C image) (λ m. fails (rule20-split C image m .3))
 
 returns-5 : tie.Need-returns-5
 returns-5 c =
-    let C = certificateOf (c .before .before .before .before .before .before .before .before .before .before .args .cert .now) in
-    let image = c .before .before .before .before .before .before .before .before .before .before .args .image .now in
-    decide-yes (rule20 C image) (rule20-join C image (decide-true (fixedRule C image) (c .before .before .before .before .before .before .before .fixed-rule .ensures) (not-false _ (c .before .before .before .before .before .before .if1 .left))) (decide-true (cellsRule C) (c .before .before .before .before .before .cells-rule .ensures) (not-false _ (c .before .before .before .before .if2 .left))) (decide-true (startsRule C) (c .before .before .before .starts-rule .ensures) (not-false _ (c .before .before .if3 .left))) (decide-true (addressesRule C) (c .before .addresses-rule .ensures) (not-false _ (c .if4 .left))))
+    let f = c .before .before in
+    let d = f .before .before in
+    let b = d .before .before in
+    let g = b .before .before .before .before .args in
+    let C = certificateOf (g .cert .now) in
+    let image = g .image .now in
+    let fixed = decide-true (fixedRule C image) (b .before .fixed-rule .ensures) (not-false _ (b .if1 .left)) in
+    let cells = decide-true (cellsRule C) (d .before .cells-rule .ensures) (not-false _ (d .if2 .left)) in
+    let starts = decide-true (startsRule C) (f .before .starts-rule .ensures) (not-false _ (f .if3 .left)) in
+    let addresses = decide-true (addressesRule C) (c .before .addresses-rule .ensures) (not-false _ (c .if4 .left)) in
+    decide-yes (rule20 C image) (rule20-join C image fixed cells starts addresses)
 
 pub rule20-spec : {M : Type 1} → statement M
-rule20-spec =
-    tie.close
-    (tie.spec
-    fixed-rule-requires
-    returns
-    cells-rule-requires
-    returns-2
-    starts-rule-requires
-    returns-3
-    addresses-rule-requires
-    returns-4
-    returns-5)
+rule20-spec = tie.close (tie.spec fixed-rule-requires returns cells-rule-requires returns-2 starts-rule-requires returns-3 addresses-rule-requires returns-4 returns-5)

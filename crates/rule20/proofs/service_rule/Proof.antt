@@ -1,5 +1,6 @@
+-- The service's row and start are tested against the vector's two bytes.
 use Rattle.rule20.specs.Parts.{serviceRule}
-use mathlib.Core.Bool.{and-assoc, or-assoc, Bool·not-not}
+use mathlib.Core.Bool.{and-assoc}
 use borrow.Author.Needs.{needs}
 use Rattle.rule20.proofs.service_rule.Statement.{statement}
 use Rattle.rule20.proofs.service_rule.Tie as tie
@@ -30,7 +31,15 @@ bare-rule-requires c κs = search needs
 
 returns : tie.Need-returns
 unfolding serviceRule
-returns c = simp (c .bare-rule .ensures, c .before .before .before .byte-at2 .ensures, c .before .before .before .before .byte-at .ensures, c .before .before .before .before .before .routine-row .ensures, and-assoc, or-assoc, Bool·not-not)
+returns c =
+    let b = c .before .before .before in
+    simp (
+      c .bare-rule .ensures,
+      b .byte-at2 .ensures,
+      b .before .byte-at .ensures,
+      b .before .before .routine-row .ensures,
+      and-assoc,
+    )
 
 pub service-rule-spec : {M : Type 1} → statement M
 service-rule-spec =

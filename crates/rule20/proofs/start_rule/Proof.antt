@@ -1,5 +1,6 @@
+-- The tests of a routine's start, by its row and its entry, are those of the definition.
 use Rattle.safety.specs.Rules.{startRule}
-use mathlib.Core.Bool.{and-assoc, or-assoc, Bool·not-not}
+use mathlib.Core.Bool.{and-assoc}
 use borrow.Author.Needs.{needs}
 use Rattle.rule20.proofs.start_rule.Statement.{statement}
 use Rattle.rule20.proofs.start_rule.Tie as tie
@@ -21,7 +22,17 @@ used-requires c κs = search needs
 
 returns : tie.Need-returns
 unfolding startRule
-returns c = simp (c .before .before .before .used .ensures, c .before .before .before .before .before .start-depth .ensures, c .before .before .before .before .before .before .before .entry-of .ensures, c .before .before .before .before .before .before .before .before .entry-part .ensures .1, c .before .before .before .before .before .before .before .before .before .routine-row .ensures, and-assoc, or-assoc, Bool·not-not)
+returns c =
+    let b = c .before .before .before in
+    let e = b .before .before .before .before in
+    simp (
+      b .used .ensures,
+      b .before .before .start-depth .ensures,
+      e .entry-of .ensures,
+      e .before .entry-part .ensures .1,
+      e .before .before .routine-row .ensures,
+      and-assoc,
+    )
 
 pub start-rule-spec : {M : Type 1} → statement M
 start-rule-spec =

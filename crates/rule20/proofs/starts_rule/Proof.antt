@@ -1,3 +1,4 @@
+-- Every start passed holds; the loop stops at the first that does not.
 use Rattle.rule20.specs.Parts.{startsRule}
 use Rattle.safety.specs.Rules.{startRule}
 use borrow.Author.Count.{below-more}
@@ -27,7 +28,8 @@ unfolding startsRule
 returns c =
     let C = certificateOf (c .before .before .before .before .before .args .cert .now) in
     let k = c .before .before .before .loop .n in
-    decide-no (startsRule C) (λ f. decide-false (startRule C k) (c .before .start-rule .ensures) (not-true _ (c .if1 .taken)) (f k (omega arith)))
+    let fails = decide-false (startRule C k) (c .before .start-rule .ensures) (not-true _ (c .if1 .taken)) in
+    decide-no (startsRule C) (λ f. fails (f k (omega arith)))
 
 add-n : tie.Need-add-n Inv-loop μ-loop
 add-n c = omega arith
@@ -39,7 +41,8 @@ loop-again : tie.Need-loop-again Inv-loop μ-loop
 loop-again c =
     let C = certificateOf (c .before .before .before .before .before .args .cert .now) in
     let k = c .before .before .before .loop .n in
-    (omega arith, below-more _ _ (c .before .before .before .loop .inv .1) (decide-true (startRule C k) (c .before .start-rule .ensures) (not-false _ (c .if1 .left))))
+    let here = decide-true (startRule C k) (c .before .start-rule .ensures) (not-false _ (c .if1 .left)) in
+    (omega arith, below-more _ _ (c .before .before .before .loop .inv .1) here)
 
 returns-2 : tie.Need-returns-2 Inv-loop μ-loop
 unfolding startsRule

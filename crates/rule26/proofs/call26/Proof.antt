@@ -1,5 +1,8 @@
+-- The claims that survive, the compare that is none, and what follows at the start, as the definition tests them.
 use Rattle.safety.specs.Rules.{call26}
-use mathlib.Core.Bool.{and-assoc, or-assoc, Bool·not-not}
+use Rattle.certificate.specs.Layout.{certificateOf}
+use mathlib.Core.Path.{_∙_}
+use mathlib.Core.Bool.{and-assoc}
 use borrow.Author.Needs.{needs}
 use Rattle.rule26.proofs.call26.Statement.{statement}
 use Rattle.rule26.proofs.call26.Tie as tie
@@ -30,7 +33,22 @@ compare-follows-requires c κs = search needs
 
 returns : tie.Need-returns
 unfolding call26
-returns c = simp (c .before .compare-follows .ensures, c .before .before .claims-follow .ensures, c .before .before .before .claim-survives2 .ensures, c .before .before .before .before .claim-survives .ensures, c .before .before .before .before .before .entry-of2 .ensures, c .before .before .before .before .before .before .entry-part2 .ensures .1, c .before .before .before .before .before .before .before .entry-of .ensures, c .before .before .before .before .before .before .before .before .entry-part .ensures .1, and-assoc, or-assoc, Bool·not-not)
+returns c a q =
+    let b = c .before .before .before .before .before in
+    let t = b .before .before in
+    let g = t .before .before .before .args in
+    let C = certificateOf (g .cert .now) in
+    let behind = b .entry-of2 .ensures ∙ b .before .entry-part2 .ensures .1 in
+    let start = t .entry-of .ensures ∙ t .before .entry-part .ensures .1 in
+    simp (
+      c .before .compare-follows .ensures C a (g .t .0) q start,
+      c .before .before .claims-follow .ensures C a q start,
+      c .before .before .before .claim-survives2 .ensures a q,
+      c .before .before .before .before .claim-survives .ensures a q,
+      behind,
+      start,
+      and-assoc,
+    )
 
 pub call26-spec : {M : Type 1} → statement M
 call26-spec =

@@ -1,10 +1,8 @@
-use Rattle.claims.specs.declared.Change.{Change}
+-- An absent claim follows; another as the change of its cell says.
 use Rattle.claims.specs.Values.{edgeOf}
 use Rattle.safety.specs.Rules.{present, changeOf, follows, claimFollows}
 use Rattle.safety.specs.Rules as rules
-use Rattle.certificate.specs.Layout.{certificateOf}
 use Rattle.base.specs.Formula.{decide, decide-yes, decide-step}
-use Prim.Native.Nat.{_-_}
 use mathlib.Core.Path.{ap, _∙_}
 use borrow.Author.Needs.{needs}
 use Rattle.rule26.proofs.claim_follows.Statement.{statement}
@@ -12,15 +10,10 @@ use Rattle.rule26.proofs.claim_follows.Tie as tie
 
 returns : tie.Need-returns
 unfolding claimFollows
-returns c =
-    let g = c .before .before .before .args in
-    let C = certificateOf (g .cert .now) in
-    let a = g .a .0 in
-    let x = g .k .cell .0 in
-    let l = g .k .low in
-    let h = g .k .high in
-    let e = edgeOf (g .e) in
-    decide-yes (claimFollows C a e (g .w) x l h) (λ m. absurd (m (c .if1 .taken)))
+returns c C a q =
+    let g = c .before .before .args in
+    let k = g .k in
+    decide-yes (claimFollows C a (edgeOf (g .e)) (g .w) (k .cell .0) (k .low) (k .high)) (λ m. absurd (m (c .if1 .taken)))
 
 change-of-requires : tie.Need-change-of-requires
 change-of-requires c κs = search needs
@@ -30,16 +23,15 @@ change-follows-requires c κs = search needs
 
 returns-2 : tie.Need-returns-2
 unfolding claimFollows
-returns-2 c =
-    let g = c .before .before .before .before .before .args in
-    let C = certificateOf (g .cert .now) in
-    let a = g .a .0 in
+returns-2 c C a q =
+    let g = c .before .before .before .before .args in
     let x = g .k .cell .0 in
     let l = g .k .low in
     let h = g .k .high in
     let e = edgeOf (g .e) in
-    decide-step (present x) (follows C a e (changeOf C a (g .w) x) x l h) (c .before .before .if1 .left) (c .change-follows .ensures ∙ ap (λ (t : rules.Change). decide (follows C a e t x l h)) (c .before .change-of .ensures))
+    let same = ap (λ (t : rules.Change). decide (follows C a e t x l h)) (c .before .change-of .ensures C a q) in
+    decide-step (present x) (follows C a e (changeOf C a (g .w) x) x l h) (c .before .before .if1 .left)
+    (c .change-follows .ensures C a q ∙ same)
 
 pub claim-follows-spec : {M : Type 1} → statement M
-claim-follows-spec =
-    tie.close (tie.spec returns change-of-requires change-follows-requires returns-2)
+claim-follows-spec = tie.close (tie.spec returns change-of-requires change-follows-requires returns-2)

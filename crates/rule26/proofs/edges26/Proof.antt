@@ -1,4 +1,5 @@
-use mathlib.Core.Bool.{and-assoc, or-assoc, Bool·not-not}
+-- A jump has its two edges; no other flow has one.
+use mathlib.Core.Bool.{Bool·not-not}
 use borrow.Author.Needs.{needs}
 use Rattle.rule26.proofs.edges26.Statement.{statement}
 use Rattle.rule26.proofs.edges26.Tie as tie
@@ -25,19 +26,19 @@ enum-told-4 : tie.Need-enum-told-4
 enum-told-4 c = search needs
 
 returns : tie.Need-returns
-returns c = simp (c .jump26 .ensures, c .before .behind26 .ensures, c .before .before .before .f .given .1, and-assoc, or-assoc, Bool·not-not)
+returns c a q = simp (c .jump26 .ensures a q, c .before .behind26 .ensures a q, c .before .before .before .f .given .1, Bool·not-not)
 
 returns-2 : tie.Need-returns-2
-returns-2 c = simp (c .enum-told .given .1, and-assoc, or-assoc, Bool·not-not)
+returns-2 c a q = simp (c .enum-told .given .1)
 
 returns-3 : tie.Need-returns-3
-returns-3 c = simp (c .enum-told2 .given .1, and-assoc, or-assoc, Bool·not-not)
+returns-3 c a q = simp (c .enum-told2 .given .1)
 
 returns-4 : tie.Need-returns-4
-returns-4 c = simp (c .enum-told3 .given .1, and-assoc, or-assoc, Bool·not-not)
+returns-4 c a q = simp (c .enum-told3 .given .1)
 
 returns-5 : tie.Need-returns-5
-returns-5 c = simp (c .enum-told4 .given .1, and-assoc, or-assoc, Bool·not-not)
+returns-5 c a q = simp (c .enum-told4 .given .1)
 
 pub edges26-spec : {M : Type 1} → statement M
 edges26-spec =

@@ -1,3 +1,4 @@
+-- Along the first cell if it is kept, else the worst.
 use Rattle.rule27.proofs.after_callee.Statement.{statement}
 use Rattle.rule27.proofs.after_callee.Tie as tie
 

@@ -1,3 +1,4 @@
+-- Each kind of what comes after has its arm; the sums fit.
 use borrow.Author.Needs.{needs}
 use Rattle.rule27.proofs.after_value.Statement.{statement}
 use Rattle.rule27.proofs.after_value.Tie as tie

@@ -1,3 +1,4 @@
+-- Every value below the loop counter that is left is paid; the search stops at the first that is not, or behind the high end.
 use Rattle.base.specs.Formula.{le?}
 use mathlib.Core.Logic.{⊎-elim}
 use Rattle.claims.specs.Values.{among}
@@ -38,11 +39,9 @@ returns : tie.Need-returns Inv-loop μ-loop
 unfolding among allPaid
 returns c =
     let g = c .before .before .before .before .before .before .args in
-    let s = g .s in
-    let e = g .e in
-    let k = g .cost in
-    let f = g .f in
-    decide-no (allPaid s e k f) (λ m. decide-false (paidAt s e k f (c .before .before .before .loop .v)) (c .before .paid-at .ensures) (not-true _ (c .if1 .taken)) (m (c .before .before .before .loop .v) (omega arith)))
+    let v = c .before .before .before .loop .v in
+    let fails = decide-false (paidAt (g .s) (g .e) (g .cost) (g .f) v) (c .before .paid-at .ensures) (not-true _ (c .if1 .taken)) in
+    decide-no (allPaid (g .s) (g .e) (g .cost) (g .f)) (λ m. fails (m v (omega arith)))
 
 add-v : tie.Need-add-v Inv-loop μ-loop
 add-v c = omega arith
@@ -53,21 +52,19 @@ loop-less c = omega arith
 loop-again : tie.Need-loop-again Inv-loop μ-loop
 loop-again c =
     let g = c .before .before .before .before .before .before .args in
-    let s = g .s in
-    let e = g .e in
-    let k = g .cost in
-    let f = g .f in
-    (omega arith, c .before .before .before .loop .inv .1, below-more _ _ (c .before .before .before .loop .inv .2) (decide-true (paidAt s e k f (c .before .before .before .loop .v)) (c .before .paid-at .ensures) (not-false _ (c .if1 .left))))
+    let turn = c .before .before .before .loop in
+    let here = decide-true (paidAt (g .s) (g .e) (g .cost) (g .f) (turn .v)) (c .before .paid-at .ensures) (not-false _ (c .if1 .left)) in
+    (omega arith, turn .inv .1, below-more _ _ (turn .inv .2) here)
 
 returns-2 : tie.Need-returns-2 Inv-loop μ-loop
 unfolding among allPaid
 returns-2 c =
     let g = c .before .before .before .before .args in
-    let s = g .s in
-    let e = g .e in
-    let k = g .cost in
-    let f = g .f in
-    decide-yes (allPaid s e k f) (λ x hx. ⊎-elim (λ (q : c .before .loop .v ≤ x) m. absurd (omega (arith, m .1 .0))) (λ (q : x < c .before .loop .v). c .before .loop .inv .2 x q) (le? (c .before .loop .v) x))
+    let turn = c .before .loop in
+    decide-yes (allPaid (g .s) (g .e) (g .cost) (g .f))
+    (λ x hx.
+    ⊎-elim (λ (q : turn .v ≤ x) m. absurd (omega (arith, m .1 .0))) (λ (q : x < turn .v). turn .inv .2 x q)
+    (le? (turn .v) x))
 
 pub all-paid-spec : {M : Type 1} → statement M
 all-paid-spec =

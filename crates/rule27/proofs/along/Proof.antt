@@ -1,3 +1,4 @@
+-- Each change of the first cell has its arm.
 use borrow.Author.Needs.{needs}
 use Rattle.rule27.proofs.along.Statement.{statement}
 use Rattle.rule27.proofs.along.Tie as tie

@@ -1,5 +1,6 @@
+-- A cost above the bound fails; else the rest is compared with what is left of it.
 use Rattle.rule27.proofs.Laws.{covered}
-use Prim.Native.Nat.{_+_, _-_}
+use Prim.Native.Nat.{_+_}
 use borrow.Author.Tests.{lt-leb}
 use native.Mathlib.Omega.{arith}
 use mathlib.Core.Path.{sym}

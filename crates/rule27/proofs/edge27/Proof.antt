@@ -1,10 +1,10 @@
-use Rattle.safety.specs.Rules.{paid, feasible, edge27, boundAfter}
+-- An edge on which no value is left is skipped; on another the cost and what comes after are paid.
 use Rattle.claims.specs.Values.{edgeOf}
+use Rattle.safety.specs.Rules.{feasible, paid, boundAfter, edge27}
 use Rattle.rule27.specs.Paid.{afterOf}
 use Rattle.rule27.proofs.Laws.{paid-same}
 use Rattle.certificate.specs.Layout.{certificateOf}
 use Rattle.base.specs.Formula.{decide-yes, decide-true, decide-false, decide-step}
-use Prim.Native.Nat.{_-_}
 use borrow.Author.Tests.{not-true, not-false}
 use mathlib.Core.Path.{_∙_}
 use borrow.Author.Needs.{needs}
@@ -16,12 +16,18 @@ feasible-requires c κs = search needs
 
 returns : tie.Need-returns
 unfolding edge27
-returns c =
+returns c a q =
     let g = c .before .before .before .args in
     let C = certificateOf (g .cert .now) in
-    let a = g .a .0 in
     let e = edgeOf (g .e) in
-    decide-yes (edge27 C a (g .s) (g .cost) e) (λ m. absurd (decide-false (feasible C a e) (c .before .feasible .ensures) (not-true _ (c .if1 .taken)) m))
+    let none = decide-false (feasible C a e) (c .before .feasible .ensures C a q) (not-true _ (c .if1 .taken)) in
+    decide-yes (edge27 C a (g .s) (g .cost) e) (λ m. absurd (none m))
+
+entry-part-requires : tie.Need-entry-part-requires
+entry-part-requires c κs = search needs
+
+entry-of-requires : tie.Need-entry-of-requires
+entry-of-requires c κs = search needs
 
 after-edge-requires : tie.Need-after-edge-requires
 after-edge-requires c κs = search needs
@@ -31,13 +37,18 @@ paid-requires c κs = search needs
 
 returns-2 : tie.Need-returns-2
 unfolding edge27
-returns-2 c =
-    let g = c .before .before .before .before .before .args in
+returns-2 c a q =
+    let after = c .before .after-edge in
+    let b = c .before .before in
+    let d = b .before .before in
+    let g = d .before .before .before .args in
     let C = certificateOf (g .cert .now) in
-    let a = g .a .0 in
     let e = edgeOf (g .e) in
-    decide-step (feasible C a e) (paid C a e (g .cost) (boundAfter C a (g .s .write) (e .to))) (decide-true (feasible C a e) (c .before .before .before .feasible .ensures) (not-false _ (c .before .before .if1 .left))) (c .paid .ensures ∙ paid-same C a e (g .cost) (afterOf (c .before .after-edge .result)) (boundAfter C a (g .s .write) (e .to)) (c .before .after-edge .ensures))
+    let bound = boundAfter C a (g .s .write) (e .to) in
+    let there = b .entry-of .ensures ∙ b .before .entry-part .ensures .1 in
+    let some = decide-true (feasible C a e) (d .before .feasible .ensures C a q) (not-false _ (d .if1 .left)) in
+    let same = paid-same C a e (g .cost) (afterOf (after .result)) bound (λ k. after .ensures C a (e .to) k q there) in
+    decide-step (feasible C a e) (paid C a e (g .cost) bound) some (c .paid .ensures C a q ∙ same)
 
 pub edge27-spec : {M : Type 1} → statement M
-edge27-spec =
-    tie.close (tie.spec feasible-requires returns after-edge-requires paid-requires returns-2)
+edge27-spec = tie.close (tie.spec feasible-requires returns entry-part-requires entry-of-requires after-edge-requires paid-requires returns-2)

@@ -1,4 +1,4 @@
-use mathlib.Core.Bool.{and-assoc, or-assoc, Bool·not-not}
+-- RET and IRET have their rule; no other flow has one.
 use borrow.Author.Needs.{needs}
 use Rattle.rule27.proofs.ends27.Statement.{statement}
 use Rattle.rule27.proofs.ends27.Tie as tie
@@ -25,19 +25,19 @@ enum-told-5 : tie.Need-enum-told-5
 enum-told-5 c = search needs
 
 returns : tie.Need-returns
-returns c = search needs
+returns c C a q = simp (c .enum-told .given .1)
 
 returns-2 : tie.Need-returns-2
-returns-2 c = search needs
+returns-2 c C a q = simp (c .enum-told2 .given .1)
 
 returns-3 : tie.Need-returns-3
-returns-3 c = simp (c .return27 .ensures, c .before .enum-told3 .given .1, and-assoc, or-assoc, Bool·not-not)
+returns-3 c C a q = simp (c .return27 .ensures C a q, c .before .enum-told3 .given .1)
 
 returns-4 : tie.Need-returns-4
-returns-4 c = simp (c .return272 .ensures, c .before .enum-told4 .given .1, and-assoc, or-assoc, Bool·not-not)
+returns-4 c C a q = simp (c .return272 .ensures C a q, c .before .enum-told4 .given .1)
 
 returns-5 : tie.Need-returns-5
-returns-5 c = search needs
+returns-5 c C a q = simp (c .enum-told5 .given .1)
 
 pub ends27-spec : {M : Type 1} → statement M
 ends27-spec =

@@ -1,3 +1,4 @@
+-- Main is exempt; of another routine every value of the first cell that is left is paid.
 use Rattle.claims.specs.declared.Values.{Values}
 use Rattle.entries.specs.declared.Entry.{Entry}
 use Rattle.safety.specs.Rules.{paid}
@@ -5,27 +6,18 @@ use mathlib.Core.Logic.{inl}
 use Rattle.claims.specs.Values.{edgeOf}
 use Rattle.rule27.specs.Paid.{afterOf, firstValuesOf, allPaid}
 use Rattle.rule27.proofs.Laws.{paid-all}
-use Rattle.certificate.specs.Layout.{certificateOf}
 use Rattle.base.specs.Formula.{decide, decide-yes}
-use Prim.Native.Nat.{_-_}
 use mathlib.Core.Path.{sym, ap, _∙_}
 use borrow.Author.Needs.{needs}
 use Rattle.rule27.proofs.paid.Statement.{statement}
 use Rattle.rule27.proofs.paid.Tie as tie
 
-entry-part-requires : tie.Need-entry-part-requires
-entry-part-requires c κs = search needs
-
-entry-of-requires : tie.Need-entry-of-requires
-entry-of-requires c κs = search needs
-
 returns : tie.Need-returns
 unfolding paid
-returns c =
-    let g = c .before .before .before .before .before .args in
-    let C = certificateOf (g .cert .now) in
-    let a = g .a .0 in
-    decide-yes (paid C a (edgeOf (g .e)) (g .cost) (afterOf (g .f))) (inl (sym (ap (λ (n : Entry). n .routine) (c .before .before .entry-of .ensures ∙ c .before .before .before .entry-part .ensures .1)) ∙ c .if1 .taken))
+returns c C a q =
+    let g = c .before .before .args in
+    let main = sym (ap (λ (n : Entry). n .routine) q) ∙ c .if1 .taken in
+    decide-yes (paid C a (edgeOf (g .e)) (g .cost) (afterOf (g .f))) (inl main)
 
 first-values-requires : tie.Need-first-values-requires
 first-values-requires c κs = search needs
@@ -35,13 +27,14 @@ all-paid-requires c κs = search needs
 
 returns-2 : tie.Need-returns-2
 unfolding paid
-returns-2 c =
-    let g = c .before .before .before .before .before .before .before .args in
-    let C = certificateOf (g .cert .now) in
-    let a = g .a .0 in
-    c .all-paid .ensures ∙ ap (λ (s : Values). decide (allPaid s (c .before .before .before .before .entry-of .result) (g .cost) (g .f))) (c .before .first-values .ensures) ∙ ap (λ (n : Entry). decide (allPaid (firstValuesOf C a (edgeOf (g .e)) (n .first .cell .0)) n (g .cost) (g .f))) (c .before .before .before .before .entry-of .ensures ∙ c .before .before .before .before .before .entry-part .ensures .1) ∙ paid-all C a (edgeOf (g .e)) (g .cost) (g .f) (λ q. c .before .before .if1 .left (ap (λ (n : Entry). n .routine) (c .before .before .before .before .entry-of .ensures ∙ c .before .before .before .before .before .entry-part .ensures .1) ∙ q))
+returns-2 c C a q =
+    let b = c .before .before in
+    let g = b .before .before .args in
+    let e = edgeOf (g .e) in
+    let values = ap (λ (s : Values). decide (allPaid s (g .n) (g .cost) (g .f))) (c .before .first-values .ensures C a q) in
+    let own = ap (λ (n : Entry). decide (allPaid (firstValuesOf C a e (n .first .cell .0)) n (g .cost) (g .f))) q in
+    c .all-paid .ensures ∙ values ∙ own
+    ∙ paid-all C a e (g .cost) (g .f) (λ m. b .if1 .left (ap (λ (n : Entry). n .routine) q ∙ m))
 
 pub paid-spec : {M : Type 1} → statement M
-paid-spec =
-    tie.close
-    (tie.spec entry-part-requires entry-of-requires returns first-values-requires all-paid-requires returns-2)
+paid-spec = tie.close (tie.spec returns first-values-requires all-paid-requires returns-2)

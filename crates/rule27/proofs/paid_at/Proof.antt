@@ -1,3 +1,4 @@
+-- A value is paid if it is not left or the bound covers the cost and what comes after.
 use borrow.Author.Needs.{needs}
 use Rattle.rule27.proofs.paid_at.Statement.{statement}
 use Rattle.rule27.proofs.paid_at.Tie as tie

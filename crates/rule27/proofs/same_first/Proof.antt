@@ -1,23 +1,11 @@
+-- By the entries' fields, the test of the first cells is the definition's.
 use Rattle.safety.specs.Rules.{sameFirst}
-use borrow.Author.Needs.{needs}
 use Rattle.rule27.proofs.same_first.Statement.{statement}
 use Rattle.rule27.proofs.same_first.Tie as tie
 
-entry-part-requires : tie.Need-entry-part-requires
-entry-part-requires c κs = search needs
-
-entry-of-requires : tie.Need-entry-of-requires
-entry-of-requires c κs = search needs
-
-entry-part-requires-2 : tie.Need-entry-part-requires-2
-entry-part-requires-2 c κs = search needs
-
-entry-of-requires-2 : tie.Need-entry-of-requires-2
-entry-of-requires-2 c κs = search needs
-
 returns : tie.Need-returns
 unfolding sameFirst
-returns c = simp (c .before .before .before .entry-of2 .ensures, c .before .before .before .before .entry-part2 .ensures .1, c .before .before .before .before .before .entry-of .ensures, c .before .before .before .before .before .before .entry-part .ensures .1)
+returns c C a b q t = simp (q, t)
 
 pub same-first-spec : {M : Type 1} → statement M
-same-first-spec = tie.close (tie.spec entry-part-requires entry-of-requires entry-part-requires-2 entry-of-requires-2 returns)
+same-first-spec = tie.close (tie.spec returns)

@@ -1,5 +1,5 @@
+-- The called address is the start of a routine above n on the side of n.
 use Rattle.safety.specs.Rules.{callTarget}
-use mathlib.Core.Bool.{and-assoc, or-assoc, Bool·not-not}
 use borrow.Author.Needs.{needs}
 use Rattle.rules.proofs.call_target.Statement.{statement}
 use Rattle.rules.proofs.call_target.Tie as tie
@@ -10,23 +10,25 @@ entry-part-requires c κs = search needs
 entry-of-requires : tie.Need-entry-of-requires
 entry-of-requires c κs = search needs
 
-entry-part-requires-2 : tie.Need-entry-part-requires-2
-entry-part-requires-2 c κs = search needs
-
-entry-of-requires-2 : tie.Need-entry-of-requires-2
-entry-of-requires-2 c κs = search needs
-
 routine-row-requires : tie.Need-routine-row-requires
 routine-row-requires c κs = search needs
 
-side-at-requires : tie.Need-side-at-requires
-side-at-requires c κs = search needs
+routine-row-requires-2 : tie.Need-routine-row-requires-2
+routine-row-requires-2 c κs = search needs
 
 returns : tie.Need-returns
 unfolding callTarget
-returns c = simp (c .before .side-at .ensures, c .before .before .before .before .before .before .before .routine-row .ensures, c .before .before .before .before .before .before .before .before .entry-of2 .ensures, c .before .before .before .before .before .before .before .before .before .entry-part2 .ensures .1, c .before .before .before .before .before .before .before .before .before .before .entry-of .ensures, c .before .before .before .before .before .before .before .before .before .before .before .entry-part .ensures .1, and-assoc, or-assoc, Bool·not-not)
+returns c =
+    let b = c .before .before .before .before .before .before in
+    let d = b .before .before .before in
+    simp (b .routine-row2 .ensures, b .before .routine-row .ensures, b .before .before .entry-of .ensures, d .entry-part .ensures .1)
 
 pub call-target-spec : {M : Type 1} → statement M
 call-target-spec =
     tie.close
-    (tie.spec entry-part-requires entry-of-requires entry-part-requires-2 entry-of-requires-2 routine-row-requires side-at-requires returns)
+    (tie.spec
+    entry-part-requires
+    entry-of-requires
+    routine-row-requires
+    routine-row-requires-2
+    returns)

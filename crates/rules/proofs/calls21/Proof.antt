@@ -1,4 +1,4 @@
-use mathlib.Core.Bool.{and-assoc, or-assoc, Bool·not-not}
+-- Behind CALL the routine goes on, and the called address is a start.
 use borrow.Author.Needs.{needs}
 use Rattle.rules.proofs.calls21.Statement.{statement}
 use Rattle.rules.proofs.calls21.Tie as tie
@@ -28,7 +28,7 @@ returns : tie.Need-returns
 returns c = search needs
 
 returns-2 : tie.Need-returns-2
-returns-2 c = simp (c .call-target .ensures, c .before .successor .ensures, c .before .before .before .f .given .1, and-assoc, or-assoc, Bool·not-not)
+returns-2 c = simp (c .call-target .ensures, c .before .successor .ensures, c .before .before .before .f .given .1)
 
 returns-3 : tie.Need-returns-3
 returns-3 c = search needs

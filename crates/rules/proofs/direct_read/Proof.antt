@@ -1,4 +1,4 @@
-use mathlib.Core.Bool.{and-assoc, or-assoc, Bool·not-not}
+-- A register that is read is mapped; nothing else is asked here.
 use borrow.Author.Needs.{needs}
 use Rattle.rules.proofs.direct_read.Statement.{statement}
 use Rattle.rules.proofs.direct_read.Tie as tie
@@ -19,7 +19,7 @@ returns : tie.Need-returns
 returns c = search needs
 
 returns-2 : tie.Need-returns-2
-returns-2 c = simp (c .mapped .ensures, c .before .before .x .given .1, and-assoc, or-assoc, Bool·not-not)
+returns-2 c = simp (c .mapped .ensures, c .before .before .x .given .1)
 
 returns-3 : tie.Need-returns-3
 returns-3 c = search needs

@@ -1,4 +1,4 @@
-use mathlib.Core.Bool.{and-assoc, or-assoc, Bool·not-not}
+-- Each register that is written is mapped and writable; LDCI and LDCD write three.
 use borrow.Author.Needs.{needs}
 use Rattle.rules.proofs.direct_write.Statement.{statement}
 use Rattle.rules.proofs.direct_write.Tie as tie
@@ -40,13 +40,22 @@ returns : tie.Need-returns
 returns c = search needs
 
 returns-2 : tie.Need-returns-2
-returns-2 c = simp (c .writable .ensures, c .before .mapped .ensures, c .before .before .before .w .given .1, and-assoc, or-assoc, Bool·not-not)
+returns-2 c = simp (c .writable .ensures, c .before .mapped .ensures, c .before .before .before .w .given .1)
 
 returns-3 : tie.Need-returns-3
 returns-3 c = search needs
 
 returns-4 : tie.Need-returns-4
-returns-4 c = simp (c .second-half .ensures, c .before .writable3 .ensures, c .before .before .mapped3 .ensures, c .before .before .before .writable2 .ensures, c .before .before .before .before .mapped2 .ensures, c .before .before .before .before .before .before .w2 .given .1, and-assoc, or-assoc, Bool·not-not)
+returns-4 c =
+    let b = c .before .before .before in
+    simp (
+      c .second-half .ensures,
+      c .before .writable3 .ensures,
+      c .before .before .mapped3 .ensures,
+      b .writable2 .ensures,
+      b .before .mapped2 .ensures,
+      b .before .before .before .w2 .given .1,
+    )
 
 pub direct-write-spec : {M : Type 1} → statement M
 direct-write-spec =

@@ -1,4 +1,5 @@
-use mathlib.Core.Bool.{and-assoc, or-assoc, Bool·not-not}
+-- Each edge of a step leads to an entry of routine n.
+use mathlib.Core.Bool.{Bool·not-not}
 use borrow.Author.Needs.{needs}
 use Rattle.rules.proofs.edges21.Statement.{statement}
 use Rattle.rules.proofs.edges21.Tie as tie
@@ -25,7 +26,7 @@ enum-told-4 : tie.Need-enum-told-4
 enum-told-4 c = search needs
 
 returns : tie.Need-returns
-returns c = simp (c .successor2 .ensures, c .before .successor .ensures, c .before .before .before .f .given .1, and-assoc, or-assoc, Bool·not-not)
+returns c = simp (c .successor2 .ensures, c .before .successor .ensures, c .before .before .before .f .given .1, Bool·not-not)
 
 returns-2 : tie.Need-returns-2
 returns-2 c = search needs

@@ -1,13 +1,7 @@
-use mathlib.Core.Bool.{and-assoc, or-assoc, Bool·not-not}
+-- RET in routines 3 to 63, IRET in 2, and nothing forbidden: each arm is the definition's clause.
 use borrow.Author.Needs.{needs}
 use Rattle.rules.proofs.flow_allowed.Statement.{statement}
 use Rattle.rules.proofs.flow_allowed.Tie as tie
-
-entry-part-requires : tie.Need-entry-part-requires
-entry-part-requires c κs = search needs
-
-entry-of-requires : tie.Need-entry-of-requires
-entry-of-requires c κs = search needs
 
 enum-told : tie.Need-enum-told
 enum-told c = search needs
@@ -25,26 +19,24 @@ enum-told-5 : tie.Need-enum-told-5
 enum-told-5 c = search needs
 
 returns : tie.Need-returns
-returns c = simp (c .enum-told .given .1)
+returns c = search needs
 
 returns-2 : tie.Need-returns-2
-returns-2 c = simp (c .enum-told2 .given .1)
+returns-2 c = search needs
 
 returns-3 : tie.Need-returns-3
-returns-3 c = simp (c .before .before .enum-told3 .given .1, c .before .before .before .before .entry-of .ensures, c .before .before .before .before .before .entry-part .ensures .1, and-assoc, or-assoc, Bool·not-not)
+returns-3 c = simp (c .enum-told3 .given .1)
 
 returns-4 : tie.Need-returns-4
-returns-4 c = simp (c .before .enum-told4 .given .1, c .before .before .before .entry-of .ensures, c .before .before .before .before .entry-part .ensures .1, and-assoc, or-assoc, Bool·not-not)
+returns-4 c = simp (c .enum-told4 .given .1)
 
 returns-5 : tie.Need-returns-5
-returns-5 c = simp (c .enum-told5 .given .1)
+returns-5 c = search needs
 
 pub flow-allowed-spec : {M : Type 1} → statement M
 flow-allowed-spec =
     tie.close
     (tie.spec
-    entry-part-requires
-    entry-of-requires
     enum-told
     enum-told-2
     enum-told-3

@@ -1,3 +1,4 @@
+-- The register behind p, which past FFH is not mapped.
 use Rattle.rules.proofs.Outside.{mapped-outside}
 use Prim.Native.Nat.{_-_}
 use borrow.Author.Needs.{needs}

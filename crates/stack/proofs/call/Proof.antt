@@ -1,3 +1,4 @@
+-- CALL leaves what the push of its return address leaves, and goes on at the target.
 use Rattle.semantics.specs.Execute.{callOf}
 use borrow.Author.Needs.{needs}
 use Rattle.stack.proofs.call.Statement.{statement}

@@ -1,3 +1,4 @@
+-- CALL through a pair pushes first and reads the pair on the registers that this leaves.
 use Rattle.semantics.specs.Execute.{callPairOf}
 use borrow.Author.Needs.{needs}
 use Rattle.stack.proofs.call_pair.Statement.{statement}
@@ -17,7 +18,11 @@ goes-on-requires c κs = search needs
 
 returns : tie.Need-returns
 unfolding callPairOf
-returns c = (simp (c .before .before .before .before .push-address .ensures .0), simp (c .goes-on .ensures, c .before .word-at .ensures, c .before .before .before .word-mapped .ensures, c .before .before .before .before .push-address .ensures .0, c .before .before .before .before .push-address .ensures .1))
+returns c =
+    let pushed = c .before .before .before .before .push-address .ensures in (
+      simp (pushed .0),
+      simp (c .goes-on .ensures, c .before .word-at .ensures, c .before .before .before .word-mapped .ensures, pushed .0, pushed .1),
+    )
 
 pub call-pair-spec : {M : Type 1} → statement M
 call-pair-spec =

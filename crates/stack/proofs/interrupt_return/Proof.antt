@@ -1,3 +1,4 @@
+-- IRET: FLAGS is popped, then RET's two bytes, then SYM.2 is set; refused where a byte was not mapped.
 use Rattle.semantics.specs.Execute.{interruptReturnOf}
 use borrow.Author.Needs.{needs}
 use Rattle.stack.proofs.interrupt_return.Statement.{statement}
@@ -35,7 +36,15 @@ goes-on-requires c κs = search needs
 
 returns : tie.Need-returns
 unfolding interruptReturnOf
-returns c = (rw (c .before .before .before .set-interrupts .ensures, c .before .before .before .before .before .before .return-from-call .ensures .0, c .before .before .before .before .before .before .before .before .before .raise .ensures, c .before .before .before .before .before .before .before .before .before .before .before .store .ensures, c .before .before .before .before .before .before .before .before .before .before .before .before .before .load .ensures), rw (c .goes-on .ensures, c .before .word-mapped .ensures, c .before .before .mapped .ensures, c .before .before .before .before .before .before .return-from-call .ensures .1, c .before .before .before .before .before .before .before .before .before .raise .ensures, c .before .before .before .before .before .before .before .before .before .before .before .store .ensures, c .before .before .before .before .before .before .before .before .before .before .before .before .before .load .ensures))
+returns c =
+    let returned = c .before .before .before .before .before .before in
+    let popped = returned .before .before .before in
+    let raised = popped .raise .ensures in
+    let stored = popped .before .before .store .ensures in
+    let loaded = popped .before .before .before .before .load .ensures in (
+      rw (c .before .before .before .set-interrupts .ensures, returned .return-from-call .ensures .0, raised, stored, loaded),
+      rw (c .goes-on .ensures, c .before .word-mapped .ensures, c .before .before .mapped .ensures, returned .return-from-call .ensures .1, raised, stored, loaded),
+    )
 
 pub interrupt-return-spec : {M : Type 1} → statement M
 interrupt-return-spec =

@@ -1,3 +1,4 @@
+-- SP counts down by one modulo 256.
 use native.Mathlib.Omega.{arith}
 use Rattle.base.specs.Wrap.{wrap-down-8}
 use Rattle.semantics.specs.Operands.{lowered}

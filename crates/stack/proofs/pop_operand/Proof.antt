@@ -1,3 +1,4 @@
+-- POP: the operand's place and the top byte are read first, then stored, then SP is raised.
 use Rattle.semantics.specs.Execute.{popOperand}
 use borrow.Author.Needs.{needs}
 use Rattle.stack.proofs.pop_operand.Statement.{statement}
@@ -26,7 +27,13 @@ goes-on-requires c κs = search needs
 
 returns : tie.Need-returns
 unfolding popOperand
-returns c = (simp (c .before .before .before .raise .ensures, c .before .before .before .before .before .store .ensures, c .before .before .before .before .before .before .before .before .load .ensures, c .before .before .before .before .before .before .before .before .before .before .before .place-of .ensures), simp (c .goes-on .ensures, c .before .before .mapped .ensures, c .before .before .before .before .before .before .before .before .load .ensures, c .before .before .before .before .before .before .before .before .before .before .before .place-of .ensures))
+returns c =
+    let stored = c .before .before .before .before .before in
+    let loaded = stored .before .before .before in
+    let place = loaded .before .before .before .place-of .ensures in (
+      simp (c .before .before .before .raise .ensures, stored .store .ensures, loaded .load .ensures, place),
+      simp (c .goes-on .ensures, c .before .before .mapped .ensures, loaded .load .ensures, place),
+    )
 
 pub pop-operand-spec : {M : Type 1} → statement M
 pop-operand-spec =

@@ -1,3 +1,4 @@
+-- A push lowers SP and writes where it then points.
 use Rattle.semantics.specs.Operands.{pushOf}
 use borrow.Author.Needs.{needs}
 use Rattle.stack.proofs.push.Statement.{statement}

@@ -1,3 +1,4 @@
+-- The low half is pushed, then the high half on what this left.
 use Rattle.semantics.specs.Operands.{pushAddress}
 use borrow.Author.Needs.{needs}
 use Rattle.stack.proofs.push_address.Statement.{statement}
@@ -17,7 +18,11 @@ push-requires-2 c κs = search needs
 
 returns : tie.Need-returns
 unfolding pushAddress
-returns c = (simp (c .push2 .ensures .0, c .before .before .before .push .ensures .0), simp (c .push2 .ensures .1, c .before .before .before .push .ensures .0, c .before .before .before .push .ensures .1))
+returns c =
+    let low = c .before .before .before .push .ensures in (
+      simp (c .push2 .ensures .0, low .0),
+      simp (c .push2 .ensures .1, low .0, low .1),
+    )
 
 pub push-address-spec : {M : Type 1} → statement M
 push-address-spec =

@@ -1,3 +1,4 @@
+-- PUSH: the operand is read on the registers with SP lowered, and stored there.
 use Rattle.semantics.specs.Execute.{pushOperand}
 use borrow.Author.Needs.{needs}
 use Rattle.stack.proofs.push_operand.Statement.{statement}
@@ -17,7 +18,13 @@ goes-on-requires c κs = search needs
 
 returns : tie.Need-returns
 unfolding pushOperand
-returns c = (simp (c .before .before .store-top .ensures .0, c .before .before .before .before .fetch .ensures, c .before .before .before .before .before .before .lower .ensures), simp (c .goes-on .ensures, c .before .before .store-top .ensures .1, c .before .before .before .before .fetch .ensures, c .before .before .before .before .before .before .lower .ensures))
+returns c =
+    let top = c .before .before .store-top .ensures in
+    let fetched = c .before .before .before .before in
+    let low = fetched .before .before .lower .ensures in (
+      simp (top .0, fetched .fetch .ensures, low),
+      simp (c .goes-on .ensures, top .1, fetched .fetch .ensures, low),
+    )
 
 pub push-operand-spec : {M : Type 1} → statement M
 push-operand-spec =

@@ -1,3 +1,4 @@
+-- SP counts up modulo 256.
 use Rattle.semantics.specs.Operands.{raised}
 use borrow.Author.Needs.{needs}
 use Rattle.stack.proofs.raise.Statement.{statement}

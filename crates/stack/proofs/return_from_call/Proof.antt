@@ -1,3 +1,4 @@
+-- RET goes to the word at SP and raises SP by two.
 use Rattle.semantics.specs.Execute.{returnOf}
 use borrow.Author.Needs.{needs}
 use Rattle.stack.proofs.return_from_call.Statement.{statement}

@@ -1,3 +1,4 @@
+-- An ordinary write where SP points, and whether that is mapped.
 use Rattle.semantics.specs.Operands.{storeTop}
 use borrow.Author.Needs.{needs}
 use Rattle.stack.proofs.store_top.Statement.{statement}

@@ -1,3 +1,4 @@
+-- Requests, then entry, waiting or instruction; a refused act has the registers before it put back.
 use Rattle.semantics.specs.Step.{actedOf}
 use mathlib.Core.Path.{_∙_}
 use borrow.Author.Needs.{needs}
@@ -24,7 +25,11 @@ put-back-requires c κs = search needs
 
 returns : tie.Need-returns
 unfolding actedOf
-returns c = rw (c .put-back .ensures) (c .before .before .before .after-requests .ensures _ ∙ simp (c .before .before .before .before .before .entry-due .ensures, c .before .before .before .before .before .before .before .post .ensures, c .before .before .before .before .before .before .before .before .acting-requests .ensures))
+returns c =
+    let due = c .before .before .before .before .before in
+    rw (c .put-back .ensures)
+    (c .before .before .before .after-requests .ensures _
+    ∙ simp (due .entry-due .ensures, due .before .before .post .ensures, due .before .before .before .acting-requests .ensures))
 
 pub act-spec : {M : Type 1} → statement M
 act-spec =

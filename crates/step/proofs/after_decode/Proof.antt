@@ -1,3 +1,4 @@
+-- What was decoded is executed and finished at its cost; the three refusals are 10, 11 and 12.
 use Rattle.semantics.specs.Step.{afterDecode}
 use Rattle.entry.specs.InPlaceLaws.{finishes}
 use mathlib.Core.Path.{_∙_}
@@ -52,7 +53,20 @@ refuse-requires-3 c κs = search needs
 
 returns : tie.Need-returns
 unfolding afterDecode
-returns c saved = rw (c .finish .ensures) (finishes saved _ _ (c .before .before .before .before .execute .result) _ _ ∙ simp (c .before .before .before .before .execute .ensures .0, c .before .before .before .before .execute .ensures .1, c .before .cycles .ensures, c .before .before .byte-at .ensures, c .before .before .before .before .before .before .action-of .ensures, c .before .before .before .before .before .before .before .wrapping-add-u16 .ensures, c .before .before .before .before .before .before .before .before .before .before .d .given .1))
+returns c saved =
+    let executed = c .before .before .before .before in
+    let behind = executed .before .before .before in
+    rw (c .finish .ensures)
+    (finishes saved _ _ (executed .execute .result) _ _
+    ∙ simp (
+      executed .execute .ensures .0,
+      executed .execute .ensures .1,
+      c .before .cycles .ensures,
+      c .before .before .byte-at .ensures,
+      executed .before .before .action-of .ensures,
+      behind .wrapping-add-u16 .ensures,
+      behind .before .before .before .d .given .1,
+    ))
 
 returns-2 : tie.Need-returns-2
 unfolding afterDecode

@@ -1,3 +1,4 @@
+-- Where an entry is due it is made; else the mode decides.
 use Rattle.semantics.specs.Step.{actAfterRequests}
 use Rattle.entry.specs.InPlaceLaws.{finishes}
 use mathlib.Core.Path.{_∙_}

@@ -1,3 +1,4 @@
+-- An instruction is what `after_decode` makes of the decoder's answer at the program counter.
 use Rattle.semantics.specs.Step.{instructionAct}
 use mathlib.Core.Path.{_∙_}
 use borrow.Author.Needs.{needs}

@@ -1,3 +1,4 @@
+-- Running is an instruction; IDLE and STOP wait, with the cycles that elapse in each.
 use Rattle.semantics.specs.Step.{modeAct}
 use mathlib.Core.Path.{_∙_}
 use borrow.Author.Needs.{needs}

@@ -1,3 +1,4 @@
+-- Nothing settles: the act's registers and results stand.
 use mathlib.Core.Path.{refl}
 use Rattle.semantics.specs.Step.{settled}
 use Rattle.step.proofs.settle.Statement.{statement}

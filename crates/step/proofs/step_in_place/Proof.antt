@@ -1,3 +1,4 @@
+-- A step is its act, then what settles; retired and elapsed are the act's.
 use Rattle.semantics.specs.Step.{Acted, settled}
 use mathlib.Core.Path.{_∙_, ap}
 use borrow.Author.Needs.{needs}

@@ -1,3 +1,4 @@
+-- AND with a number gives at most that number; with another operand anything.
 use borrow.Author.Needs.{needs}
 use Rattle.summary.proofs.and_value.Statement.{statement}
 use Rattle.summary.proofs.and_value.Tie as tie

@@ -1,3 +1,4 @@
+-- CP leaves what `compare_flags` says; every other operation changes the flags.
 use borrow.Author.Needs.{needs}
 use Rattle.summary.proofs.binary_flags.Statement.{statement}
 use Rattle.summary.proofs.binary_flags.Tie as tie

@@ -1,3 +1,4 @@
+-- What a two-operand instruction stores, reads and leaves in FLAGS, by whether it stores.
 use borrow.Author.Needs.{needs}
 use Rattle.summary.proofs.binary_summary.Statement.{statement}
 use Rattle.summary.proofs.binary_summary.Tie as tie
@@ -15,7 +16,9 @@ moving-requires : tie.Need-moving-requires
 moving-requires c κs = search needs
 
 returns : tie.Need-returns
-returns c = simp (c .moving .ensures, c .before .reading .ensures, c .before .before .write-to .ensures, c .before .before .before .binary-value .ensures, c .before .before .before .before .if1 .taken)
+returns c =
+    let b = c .before .before .before in
+    simp (c .moving .ensures, c .before .reading .ensures, c .before .before .write-to .ensures, b .binary-value .ensures, b .before .if1 .taken)
 
 binary-flags-requires : tie.Need-binary-flags-requires
 binary-flags-requires c κs = search needs
@@ -30,7 +33,9 @@ moving-requires-2 : tie.Need-moving-requires-2
 moving-requires-2 c κs = search needs
 
 returns-2 : tie.Need-returns-2
-returns-2 c = simp (c .moving2 .ensures, c .before .reading3 .ensures, c .before .before .reading2 .ensures, c .before .before .before .binary-flags .ensures, c .before .before .before .before .if1 .left)
+returns-2 c =
+    let b = c .before .before .before in
+    simp (c .moving2 .ensures, c .before .reading3 .ensures, c .before .before .reading2 .ensures, b .binary-flags .ensures, b .before .if1 .left)
 
 pub binary-summary-spec : {M : Type 1} → statement M
 binary-summary-spec =

@@ -1,3 +1,4 @@
+-- What LDC reads: a direct address, or a pair with its offset.
 use borrow.Author.Needs.{needs}
 use Rattle.summary.proofs.code_access.Statement.{statement}
 use Rattle.summary.proofs.code_access.Tie as tie

@@ -1,3 +1,4 @@
+-- Only a register against a number leaves a compare.
 use borrow.Author.Needs.{needs}
 use Rattle.summary.proofs.compare_flags.Statement.{statement}
 use Rattle.summary.proofs.compare_flags.Tie as tie

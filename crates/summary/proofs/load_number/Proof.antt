@@ -1,3 +1,4 @@
+-- LD of a register with a number: of SP it loads the stack pointer.
 use borrow.Author.Tests.{eq-eqb, ne-eqb}
 use borrow.Author.Needs.{needs}
 use Rattle.summary.proofs.load_number.Statement.{statement}

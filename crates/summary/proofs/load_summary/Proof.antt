@@ -1,3 +1,4 @@
+-- LD by its operands: each arm is the definition's clause.
 use borrow.Author.Needs.{needs}
 use Rattle.summary.proofs.load_summary.Statement.{statement}
 use Rattle.summary.proofs.load_summary.Tie as tie

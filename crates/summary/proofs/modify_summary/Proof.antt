@@ -1,3 +1,4 @@
+-- What a one-operand instruction stores and leaves in FLAGS.
 use Rattle.certificate.specs.Summaries.{summaryOf}
 use borrow.Author.Needs.{needs}
 use Rattle.summary.proofs.modify_summary.Statement.{statement}
@@ -20,7 +21,9 @@ into-requires c κs = search needs
 
 returns : tie.Need-returns
 unfolding summaryOf
-returns c = simp (c .into .ensures, c .before .moving .ensures, c .before .before .modify-flags .ensures, c .before .before .before .write-to .ensures, c .before .before .before .before .modify-value .ensures)
+returns c =
+    let b = c .before .before .before in
+    simp (c .into .ensures, c .before .moving .ensures, c .before .before .modify-flags .ensures, b .write-to .ensures, b .before .modify-value .ensures)
 
 pub modify-summary-spec : {M : Type 1} → statement M
 modify-summary-spec =

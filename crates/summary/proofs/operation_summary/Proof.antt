@@ -1,3 +1,4 @@
+-- A two-operand instruction into a place; a number is no destination.
 use Rattle.certificate.specs.Summaries.{summaryOf}
 use borrow.Author.Needs.{needs}
 use Rattle.summary.proofs.operation_summary.Statement.{statement}

@@ -1,3 +1,4 @@
+-- POP stores an unknown byte and raises SP.
 use Rattle.certificate.specs.Summaries.{summaryOf}
 use borrow.Author.Needs.{needs}
 use Rattle.summary.proofs.pop_summary.Statement.{statement}

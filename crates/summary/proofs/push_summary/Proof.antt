@@ -1,3 +1,4 @@
+-- PUSH reads its operand and lowers SP.
 use Rattle.certificate.specs.Summaries.{summaryOf}
 use borrow.Author.Needs.{needs}
 use Rattle.summary.proofs.push_summary.Statement.{statement}

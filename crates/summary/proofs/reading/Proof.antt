@@ -1,3 +1,4 @@
+-- What reading an operand reads.
 use borrow.Author.Needs.{needs}
 use Rattle.summary.proofs.reading.Statement.{statement}
 use Rattle.summary.proofs.reading.Tie as tie

@@ -1,3 +1,4 @@
+-- An offset of 8 bits is signed: below 128 it goes up, from 128 on down.
 use borrow.Author.Tests.{lt-ltb, le-ltb, le-leb, lt-leb}
 use borrow.Author.Needs.{needs}
 use Rattle.summary.proofs.short_access.Statement.{statement}

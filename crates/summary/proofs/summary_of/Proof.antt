@@ -1,3 +1,4 @@
+-- Each of the 19 actions has the summary of its definition.
 use Rattle.certificate.specs.Summaries.{summaryOf}
 use borrow.Author.Needs.{needs}
 use Rattle.summary.proofs.summary_of.Statement.{statement}

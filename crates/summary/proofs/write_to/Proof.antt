@@ -1,3 +1,4 @@
+-- What storing to an operand writes.
 use borrow.Author.Needs.{needs}
 use Rattle.summary.proofs.write_to.Statement.{statement}
 use Rattle.summary.proofs.write_to.Tie as tie

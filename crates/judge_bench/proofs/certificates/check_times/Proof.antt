@@ -1,3 +1,5 @@
+-- The checks end: the measure is the number of turns left.
+-- Assumes nothing.
 use borrow.Author.Needs.{needs}
 use Rattle.judge_bench.proofs.certificates.check_times.Statement.{statement}
 use Rattle.judge_bench.proofs.certificates.check_times.Tie as tie

@@ -1,3 +1,5 @@
+-- Every bound fits its two bytes: the measure is the number of bounds left.
+-- Assumes nothing.
 use Prim.Native.Nat.{_≤_, _-_}
 use borrow.Author.Needs.{needs}
 use Rattle.judge_bench.proofs.certificates.put_bounds.Statement.{statement}

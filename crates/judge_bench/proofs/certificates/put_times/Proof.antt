@@ -1,3 +1,5 @@
+-- The slice keeps its length: the measure is the number of parts left.
+-- Assumes nothing.
 use mathlib.Core.Path.{_≡_, refl}
 use lib.ListN.{length}
 use borrow.Author.Needs.{needs}

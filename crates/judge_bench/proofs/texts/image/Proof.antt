@@ -1,3 +1,5 @@
+-- Every byte lies within the image: the measure is the number of bytes left.
+-- Assumes nothing.
 use Prim.Native.Nat.{_≤_, _-_}
 use borrow.Author.Needs.{needs}
 use Rattle.base.specs.Lengths.{romLength}

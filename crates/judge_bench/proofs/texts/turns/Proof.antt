@@ -1,3 +1,5 @@
+-- The turns end: the measure is the number of those left.
+-- Assumes nothing.
 use borrow.Author.Needs.{needs}
 use Rattle.judge_bench.proofs.texts.turns.Statement.{statement}
 use Rattle.judge_bench.proofs.texts.turns.Tie as tie

@@ -1,0 +1,181 @@
+-- The customer's three demands, word for word, as theorems over the definitions. The contract of each public call says that its answer and every
+-- lent byte are what its definition gives: `decode` decodeAt; `encode` encodeAnswer, encodeInto; `copy_instruction` copyAnswer, copyInto;
+-- `read_line` readLine, lineBuffer; `read_text` textAnswer, textBuffer; `feed` feedBuffer; `finish` finishAnswer; `write_image` writeAnswer,
+-- writeBuffer; `write_report` reportAnswer, reportBuffer; `judge_texts` printedAnswer, printedBuffer; `step` stepOf; `run` runOf; `check` verdictOf.
+-- A call reaches no memory but what it is lent: the language has no other.
+-- Assumes nothing.
+use Prim.Native.Nat.{ℕ, _+_, _-_, _/_, _≤_, _<_}
+use mathlib.Core.Path.{_≡_}
+use mathlib.Core.Logic.{_⊎_}
+use mathlib.Core.List.{List, _++_}
+use lib.ListN.{length, getD, take, drop}
+use lib.Dec.{ltb, leb}
+use borrow.Author.Tests.{lt-ltb}
+use Rattle.base.specs.declared.RomAddr.{RomAddr}
+use Rattle.base.specs.Choice.{pick}
+use Rattle.base.specs.Outcome.{Outcome}
+use Rattle.base.specs.Outcome.Outcome.{value, refused}
+use Rattle.isa.specs.declared.Instruction.{Instruction}
+use Rattle.isa.specs.Map.{cellLength}
+use Rattle.isa.specs.Map.Cell.{empty}
+use Rattle.isa.specs.Printed as manual
+use Rattle.columns.specs.Form.{formOf}
+use Rattle.decode.specs.Decode.{decodeAt}
+use Rattle.decode.specs.Refusals.{decode-number}
+use Rattle.encode.specs.Encode.{encodeAnswer, encodeInto}
+use Rattle.encode.specs.Laws.{TooWideOrOdd}
+use Rattle.encode.specs.Refusals.{encode-number, encode-unchanged, length-encodeInto}
+use Rattle.roundtrip.specs.RoundTrip.{re-encoded}
+use Rattle.roundtrip.specs.Copy.{copyAnswer, copyInto}
+use Rattle.roundtrip.specs.Refusals.{copy-number, copy-unchanged, length-copyInto}
+use Rattle.semantics.specs.declared.State.{State}
+use Rattle.semantics.specs.Step.{stepOf}
+use Rattle.semantics.specs.Run.{runOf}
+use Rattle.semantics.specs.Refusals.{StepNumber, Stops, step-stops, run-number}
+use Rattle.machine.specs.Count.{completedSteps, totalCost, Counted, run-counted}
+use Rattle.hex_line.specs.declared.Reader.{Reader}
+use Rattle.hex_line.specs.Line.{readLine, lineBuffer}
+use Rattle.hex_line.specs.Refusals.{line-number, line-unchanged, length-lineBuffer}
+use Rattle.hex_text.specs.declared.Stream.{Stream}
+use Rattle.hex_text.specs.Text.{textAnswer, textBuffer}
+use Rattle.hex_text.specs.Stream.{feedBuffer, finishAnswer}
+use Rattle.hex_text.specs.Refusals.{text-number, text-unchanged, length-textBuffer, finish-number, length-feedBuffer}
+use Rattle.hex_write.specs.ImageText.{writeAnswer, writeBuffer}
+use Rattle.hex_write.specs.Refusals.{write-number, write-unchanged, length-writeBuffer}
+use Rattle.hex_write.specs.ReadBack.{ReadsBack, write-reads-back}
+use Rattle.certificate.specs.declared.Verdict.{Verdict}
+use Rattle.certificate.specs.declared.Verdict.the-variants.{Accepted, Refused}
+use Rattle.certificate.specs.Layout.{certificateOf}
+use Rattle.safety.specs.Verdicts.{verdictOf, Broken, Exact}
+use Rattle.safety.specs.Exact.{CheckNumber, verdict-number, accepted-when, exact}
+use Rattle.safety.specs.Statement.{Demand3}
+use Rattle.safety.specs.Theorem.{demand3}
+use Rattle.report.specs.Report.{reportAnswer, reportBuffer}
+use Rattle.report.specs.Refusals.{report-number, report-unchanged, length-reportBuffer}
+use Rattle.judge.specs.Judgement.{printedAnswer, printedBuffer}
+use Rattle.judge.specs.Refusals.{printed-number, printed-unchanged, length-printedBuffer}
+use Rattle.logger_cases.specs.Cases.{AllHold, cases, all-hold}
+
+abbrev Bytes : List ℕ → Type 0
+Bytes l = (i : ℕ) → getD l i 0 < 256
+
+-- Demand 1. Lent memory holds after every call exactly what document 01 says it holds: input of any length and content is worked through to an end
+-- or refused by a number in 01's table, nothing outside a lent buffer is touched, and a refusal leaves its output buffer unchanged --
+
+-- a call that answers o and makes of a lent buffer what stands after it
+pub record Lends {A : Type 0} (Number : ℕ → Type 0) (o : Outcome A) (before after : List ℕ) : Type 0 where
+  pub number : (n : ℕ) → o ≡ refused n → Number n
+  pub unchanged : (n : ℕ) → o ≡ refused n → after ≡ before
+  pub size : length after ≡ length before
+
+abbrev DecodeNumber : ℕ → Type 0
+DecodeNumber n = (10 ≤ n) × (n ≤ 12)
+
+abbrev HexNumber : ℕ → Type 0
+HexNumber n = (1 ≤ n) × (n ≤ 7)
+
+pub decode-refuses : (s : List ℕ) (at n : ℕ) → decodeAt s at ≡ refused n → DecodeNumber n
+decode-refuses = decode-number
+
+pub encode-lends : (i : Instruction) (out : List ℕ) → Lends (λ n. (n ≡ 7) ⊎ TooWideOrOdd n) (encodeAnswer i (length out)) out (encodeInto i out)
+encode-lends i out = record { number = encode-number i out; unchanged = encode-unchanged i out; size = length-encodeInto i out }
+
+pub copy-lends : (s : List ℕ) → Bytes s → (at : ℕ) (out : List ℕ)
+    → Lends (λ n. (n ≡ 7) ⊎ DecodeNumber n) (copyAnswer s at (length out)) out (copyInto s at out)
+copy-lends s byte at out =
+    record { number = copy-number s at out; unchanged = copy-unchanged s at out; size = length-copyInto s at out byte }
+
+pub read-line-lends : (reader : Reader) (line m : List ℕ) → Lends HexNumber (readLine reader (length m) line) m (lineBuffer reader line m)
+read-line-lends reader line m =
+    record { number = line-number reader (length m) line; unchanged = line-unchanged reader line m; size = length-lineBuffer reader line m }
+
+pub read-text-lends : (text m : List ℕ) → Lends HexNumber (textAnswer text (length m)) m (textBuffer text m)
+read-text-lends text m =
+    record { number = text-number text (length m); unchanged = text-unchanged text m; size = length-textBuffer text m }
+
+pub feed-keeps-length : (s : Stream) (piece m : List ℕ) → length (feedBuffer s piece m) ≡ length m
+feed-keeps-length = length-feedBuffer
+
+pub finish-refuses : (size : ℕ) (s : Stream) (n : ℕ) → finishAnswer size s ≡ refused n → HexNumber n
+finish-refuses = finish-number
+
+pub write-image-lends : (m out : List ℕ) → Lends (λ n. n ≡ 7) (writeAnswer (length m) (length out)) out (writeBuffer m out)
+write-image-lends m out =
+    record { number = write-number (length m) (length out); unchanged = write-unchanged m out; size = length-writeBuffer m out }
+
+pub write-report-lends : (verdict : Verdict) (cert out : List ℕ)
+    → Lends (λ n. n ≡ 7) (reportAnswer verdict cert (length out)) out (reportBuffer verdict cert out)
+write-report-lends verdict cert out =
+    record {
+      number = report-number verdict cert (length out);
+      unchanged = report-unchanged verdict cert out;
+      size = length-reportBuffer verdict cert out;
+    }
+
+pub judge-texts-lends : (image certificate out : List ℕ)
+    → Lends (λ n. n ≡ 7) (printedAnswer image certificate (length out)) out (printedBuffer image certificate out)
+judge-texts-lends image certificate out =
+    record {
+      number = printed-number image certificate (length out);
+      unchanged = printed-unchanged image certificate out;
+      size = length-printedBuffer image certificate out;
+    }
+
+-- a refused step leaves the state before it, requests included
+pub step-stops-right : (image : List ℕ) (s : State) (rec : List ℕ) → Stops s (stepOf image s rec .state) (stepOf image s rec .stop)
+step-stops-right image s rec = step-stops s image rec
+
+pub run-refuses : (image : List ℕ) (s : State) (schedule : List ℕ) → StepNumber (runOf image s schedule .stop)
+run-refuses image s schedule = run-number image schedule s
+
+pub check-refuses : (image cert : List ℕ) (n : ℕ) (a : RomAddr) → verdictOf image cert ≡ Refused n a → CheckNumber n
+check-refuses = verdict-number
+
+-- Demand 2. Each of the 256 first bytes decodes as the manual and 01 say, --
+
+-- by the cell of table 6-5 as printed (with 01's corrections) for the first byte, and the bytes behind it
+pub first-bytes-as-printed : (s : List ℕ) → Bytes s → (at : ℕ) → at < length s
+    → decodeAt s at
+    ≡ (let cell = getD manual.printed (getD s at 0) empty in
+    pick (leb (cellLength cell) (length s - at))
+    (formOf cell (getD s at 0 / 16) (getD s (at + 1) 0) (getD s (at + 2) 0) (getD s (at + 3) 0))
+    (refused 10))
+unfolding decodeAt
+first-bytes-as-printed s byte at h = rw (manual.as-printed (getD s at 0) (byte at), lt-ltb at (length s) h)
+
+-- encoding what was decoded restores its bytes, --
+pub decoded-encodes-back : (s : List ℕ) (at : ℕ) → Bytes s → (i : Instruction) (n : ℕ) (out : List ℕ) → decodeAt s at ≡ value (i, n)
+    → (encodeAnswer i (length out) ≡ pick (ltb (length out) n) (refused 7) (value n))
+    × (encodeInto i out ≡ pick (ltb (length out) n) out (take n (drop at s) ++ drop n out))
+decoded-encodes-back = re-encoded
+
+-- every step leaves the registers, flags, program counter and cycle total they print: `stepOf`, one definition an action. Of it, 01's cases (a) to
+-- (l), and a run's steps and cycles, --
+pub logger-cases : AllHold cases
+logger-cases = all-hold
+
+pub steps-and-cycles : (image schedule : List ℕ) (s : State) → s .cycles < 4294967296
+    → Counted (completedSteps image s schedule) (totalCost image s schedule) s (runOf image s schedule)
+steps-and-cycles = run-counted
+
+-- an image written as Intel HEX reads back to itself, --
+pub written-reads-back : (m out : List ℕ) → Bytes m → ReadsBack (writeAnswer (length m) (length out)) m (writeBuffer m out)
+written-reads-back = write-reads-back
+
+-- and the checker accepts exactly when no rule of 01 is broken --
+pub accepts-when-none-broken : (image cert : List ℕ) → ((n a : ℕ) → Broken image cert n a → ⊥) → verdictOf image cert ≡ Accepted
+accepts-when-none-broken = accepted-when
+
+-- and this both ways, for each verdict
+pub check-exact : (image cert : List ℕ) → Exact image cert (verdictOf image cert)
+check-exact = exact
+
+-- Demand 3. If the checker accepts an image and certificate, then for every list of schedule records, whatever they request and let the machine
+-- read, and whatever bytes reset leaves open, a run of that image from reset does every record and no step stops, and: each instruction begins at
+-- an address whose certificate entry names the innermost open routine; the stack pointer, once loaded with the top, stays between floor and top;
+-- each RET goes behind the call that opened its routine and each IRET to where its interrupt fell; all addresses that the pointer of the instruction
+-- at one ROM address (an operand's register or pair, plus its offset if it has one; SP's own traffic is the stack's) gives in the whole run lie in
+-- one declared table or, for LDC, in ROM; and from a call or interrupt entry up to and with its return, or as far as the list goes, no routine but
+-- main spends more cycles of its own and its callees' than its bound --
+pub accepted-runs-safely : (image cert : List ℕ) → Bytes image → Bytes cert → verdictOf image cert ≡ Accepted → Demand3 (certificateOf cert) image
+accepted-runs-safely = demand3

@@ -1,0 +1,1 @@
+// The demands as theorems, in specs/Demands.antt; there is no code.

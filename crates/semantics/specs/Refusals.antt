@@ -1,0 +1,152 @@
+-- A step or a run is refused by 7 or 10 to 14; a refused step leaves the state before it.
+-- Assumes nothing.
+use Prim.Native.Nat.{ℕ, zero, suc, _+_, _/_, _%_, _≤_}
+use mathlib.Core.Path.{_≡_, refl}
+use mathlib.Core.Logic.{_≢_, _⊎_, inl, inr}
+use mathlib.Core.Bool.{Bool, true, false, _&&_}
+use mathlib.Core.List.{List}
+use native.Mathlib.Omega.{arith}
+use lib.ListN.{length, getD}
+use lib.Dec.{eqb, ltb}
+use Rattle.base.specs.declared.RomAddr.{RomAddr}
+use Rattle.base.specs.Addresses.{romAddr, flagsCell, stopconCell}
+use Rattle.base.specs.ChoiceLaws.{pick-has}
+use Rattle.base.specs.Outcome.{Outcome}
+use Rattle.base.specs.Outcome.Outcome.{value, refused}
+use Rattle.base.specs.Lengths.{isImageLength, recordLength}
+use Rattle.isa.specs.declared.Instruction.{Instruction}
+use Rattle.decode.specs.Decode.{decodeAt}
+use Rattle.decode.specs.Refusals.{decode-number}
+use Rattle.action.specs.declared.Action.{Action}
+use Rattle.chip.specs.Registers.{mappedOf, loadOf, storeOf}
+use Rattle.semantics.specs.declared.Mode.{Mode}
+use Rattle.semantics.specs.declared.Mode.the-variants.{Running, Idle, Stopped}
+use Rattle.semantics.specs.declared.Next.{Next}
+use Rattle.semantics.specs.declared.State.{State}
+use Rattle.semantics.specs.declared.Stepped.{Stepped}
+use Rattle.semantics.specs.declared.Ran.{Ran}
+use Rattle.semantics.specs.Operands.{placeOf, fetchOf, lowered, raised, storeTop, pushOf, pushAddress, wordAt, wordMapped, spOf, flagsOf}
+use Rattle.semantics.specs.Execute.{codeAddress, Executed, goesOn, inRom, leaves, binaryOf, modifyOf, loadInto, pushOperand, popOperand, loadCodeOf, loadCodeStepOf}
+use Rattle.semantics.specs.Execute.{jumpOf, jumpPairOf, callOf, callPairOf, returnOf, interruptReturnOf, carryOf, stopOf, executeOf}
+use Rattle.semantics.specs.Step.{Acted, entryDue, finishOf, enterOf, entryCost, afterDecode, instructionAct, modeAct, actAfterRequests, requested, actedOf, settled, stepOf}
+use Rattle.semantics.specs.Run.{ran, recordAt, runFrom, runOf}
+
+-- 0, or a number by which an action is refused
+abbrev ActionNumber : ℕ → Type 0
+ActionNumber n = (n ≡ 0) ⊎ ((13 ≤ n) × (n ≤ 14))
+
+abbrev Ends : Next → Type 0
+Ends next = ActionNumber (next .stop)
+
+goes-on : (ok : Bool) (pc : RomAddr) → Ends (goesOn ok pc)
+goes-on true pc = inl refl
+goes-on false pc = inr (omega arith, omega arith)
+
+in-rom : (image : List ℕ) (a : ℕ) (pc : RomAddr) → Ends (inRom image a pc)
+in-rom image a pc = pick-has ActionNumber (ltb a (length image)) 0 14 (λ _. inl refl) (λ _. inr (omega arith, omega arith))
+
+execute-ends : (act : Action) (image regs rec : List ℕ) (pc : RomAddr) → Ends (executeOf act image regs rec pc .next)
+unfolding executeOf binaryOf modifyOf loadInto pushOperand popOperand loadCodeOf loadCodeStepOf jumpOf jumpPairOf callOf callPairOf returnOf interruptReturnOf carryOf stopOf
+execute-ends (Action.Binary op d s) image regs rec pc = goes-on (placeOf regs rec d .ok && fetchOf regs rec s .ok) pc
+execute-ends (Action.Modify op d) image regs rec pc = goes-on (placeOf regs rec d .ok) pc
+execute-ends (Action.Load d s) image regs rec pc = goes-on (placeOf regs rec d .ok && fetchOf regs rec s .ok) pc
+execute-ends (Action.Push s) image regs rec pc =
+    let q = fetchOf (lowered regs) rec s in
+    goes-on (q .ok && storeTop (lowered regs) (q .value) .ok) pc
+execute-ends (Action.Pop d) image regs rec pc = goes-on (placeOf regs rec d .ok && mappedOf (spOf regs)) pc
+execute-ends (Action.LoadCode d c) image regs rec pc = in-rom image (codeAddress c regs rec) pc
+execute-ends (Action.LoadCodeStep d p up) image regs rec pc = in-rom image (wordAt regs rec (p .0)) pc
+execute-ends Action.External image regs rec pc = inr (omega arith, omega arith)
+execute-ends (Action.Jump cc to) image regs rec pc = inl refl
+execute-ends (Action.JumpPair p) image regs rec pc = goes-on (wordMapped (p .0)) pc
+execute-ends (Action.Call to) image regs rec pc = goes-on (pushAddress regs pc .ok) pc
+execute-ends (Action.CallPair p) image regs rec pc = goes-on (pushAddress regs pc .ok && wordMapped (p .0)) pc
+execute-ends Action.Return image regs rec pc = goes-on (wordMapped (spOf regs)) pc
+execute-ends Action.InterruptReturn image regs rec pc =
+    let r = raised (storeOf regs flagsCell (loadOf regs rec (spOf regs))) 1 in
+    goes-on (mappedOf (spOf regs) && wordMapped (spOf r)) pc
+execute-ends (Action.Carry change) image regs rec pc = inl refl
+execute-ends (Action.Interrupts on) image regs rec pc = inl refl
+execute-ends Action.Idle image regs rec pc = inl refl
+execute-ends Action.Stop image regs rec pc =
+    pick-has Ends (eqb (getD regs stopconCell 0) 0xA5) (leaves pc Stopped 0) (leaves (romAddr 0x100) Running 0) (λ _. inl refl) (λ _. inl refl)
+execute-ends Action.Nop image regs rec pc = inl refl
+
+-- 0, or a number by which a step is refused
+abbrev pub StepNumber : ℕ → Type 0
+StepNumber n = (n ≡ 0) ⊎ (n ≡ 7) ⊎ ((10 ≤ n) × (n ≤ 14))
+
+-- what an act or a step from s ends in: its number, and where it is refused the state before it
+pub record Stops (s after : State) (n : ℕ) : Type 0 where
+  pub number : StepNumber n
+  pub unchanged : n ≢ 0 → after ≡ s
+
+widened : {n : ℕ} → ActionNumber n → StepNumber n
+widened {n} (inl z) = inl z
+widened {n} (inr h) = inr (inr (omega (arith, h .0), omega (arith, h .1)))
+
+module _ (s : State) where
+  abbrev ActStops : Acted → Type 0
+  ActStops a = Stops s (a .state) (a .stop)
+
+  finish-stops : (e : Executed) (retired : Bool) (cost : ℕ) → Ends (e .next) → ActStops (finishOf s e retired cost)
+  unfolding finishOf
+  finish-stops e retired cost h =
+      pick-has ActStops (eqb (e .next .stop) 0) _ _
+      (λ _. record { number = inl refl; unchanged = λ ne. absurd (ne refl) }) (λ _. record { number = widened h; unchanged = λ _. refl })
+
+  enter-ends : (image regs : List ℕ) (pc : RomAddr) → Ends (enterOf image regs pc .next)
+  unfolding enterOf
+  enter-ends image regs pc =
+      let a = pushAddress regs pc in
+      goes-on (a .ok && pushOf (a .regs) (flagsOf (a .regs)) .ok) pc
+
+  decode-stops : (o : Outcome (Instruction × ℕ)) (image regs rec : List ℕ) → decodeAt image (s .pc .0) ≡ o
+      → ActStops (afterDecode o image s regs rec)
+  unfolding afterDecode
+  decode-stops (value d) image regs rec e = finish-stops _ true _ (execute-ends _ image regs rec _)
+  decode-stops (refused n) image regs rec e =
+      let h = decode-number image (s .pc .0) n e in
+      record { number = inr (inr (h .0, omega (arith, h .1))); unchanged = λ _. refl }
+
+  mode-stops : (m : Mode) (image regs rec : List ℕ) → ActStops (modeAct m image s regs rec)
+  unfolding modeAct instructionAct
+  mode-stops Running image regs rec = decode-stops (decodeAt image (s .pc .0)) image regs rec refl
+  mode-stops Idle image regs rec = record { number = inl refl; unchanged = λ ne. absurd (ne refl) }
+  mode-stops Stopped image regs rec = record { number = inl refl; unchanged = λ ne. absurd (ne refl) }
+
+  act-stops : (b : Bool) (image regs rec : List ℕ) → ActStops (actAfterRequests b image s regs rec)
+  unfolding actAfterRequests
+  act-stops true image regs rec = finish-stops _ false entryCost (enter-ends image regs (s .pc))
+  act-stops false image regs rec = mode-stops (s .mode) image regs rec
+
+  -- what settles keeps the number, and a refused act's state
+  settled-stops : (a : Acted) → ActStops a → Stops s (settled s a .state) (settled s a .stop)
+  unfolding settled
+  settled-stops a h = h
+
+  pub step-stops : (image rec : List ℕ) → Stops s (stepOf image s rec .state) (stepOf image s rec .stop)
+  unfolding stepOf actedOf
+  step-stops image rec =
+      pick-has (λ (r : Stepped). Stops s (r .state) (r .stop)) (isImageLength (length image) && eqb (length rec) recordLength) _ _
+      (λ _. settled-stops _ (act-stops (entryDue (requested s rec) (s .mode)) image (requested s rec) rec))
+      (λ _. record { number = inr (inl refl); unchanged = λ _. refl })
+
+run-from-number : (k : ℕ) (image schedule : List ℕ) (i : ℕ) (s : State) → StepNumber (runFrom k image schedule i s .stop)
+unfolding runFrom
+run-from-number zero image schedule i s = inl refl
+run-from-number (suc k) image schedule i s = on (eqb (r .stop) 0) (run-from-number k image schedule (i + 1) (r .state))
+  where
+    r : Stepped
+    r = stepOf image s (recordAt schedule i)
+
+    on : (b : Bool) → StepNumber (runFrom k image schedule (i + 1) (r .state) .stop)
+        → StepNumber ((elim b as (λ _. Ran) [ true ↦ runFrom k image schedule (i + 1) (r .state) | false ↦ ran (r .state) i (r .stop) ]) .stop)
+    on true rest = rest
+    on false rest = step-stops s image (recordAt schedule i) .number
+
+pub run-number : (image schedule : List ℕ) (s : State) → StepNumber (runOf image s schedule .stop)
+unfolding runOf
+run-number image schedule s =
+    pick-has (λ (r : Ran). StepNumber (r .stop)) (isImageLength (length image) && eqb (length schedule % recordLength) 0) _ _
+    (λ _. run-from-number (length schedule / recordLength) image schedule 0 s) (λ _. inr (inl refl))

@@ -1,0 +1,4 @@
+pub mod Arguments
+pub mod Counts
+pub mod Edits
+pub mod Numbers

@@ -1,0 +1,17 @@
+-- Numbers in a list of bytes, high byte first; a byte past the end counts as 0.
+-- Assumes nothing.
+use Prim.Native.Nat.{ℕ, _+_, _*_, _≤_}
+use mathlib.Core.Path.{_≡_}
+use mathlib.Core.List.{List}
+use native.Mathlib.Omega.{arith}
+use lib.ListN.{length, getD, List·getD-eq-default}
+
+abbrev pub wordAt : List ℕ → ℕ → ℕ
+wordAt s at = getD s at 0 * 256 + getD s (at + 1) 0
+
+abbrev pub longAt : List ℕ → ℕ → ℕ
+longAt s at = wordAt s at * 65536 + wordAt s (at + 2)
+
+-- a word past the end
+pub word-out : (s : List ℕ) (at : ℕ) → length s ≤ at → wordAt s at ≡ 0
+word-out s at h = rw (List·getD-eq-default s 0 {n = at} h, List·getD-eq-default s 0 {n = at + 1} (omega arith))
