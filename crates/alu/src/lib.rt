@@ -1,8 +1,8 @@
-// Operations on bytes with the flags that they name, the FLAGS register and the 16 conditions.
+// Operations on bytes with the flags that they name, and the FLAGS register.
 ghost use mathlib.Core.Path.{_≡_};
 ghost use Prim.Native.Nat.{_<_, _≤_, _%_, _*_};
 ghost use Rattle.base.specs.Choice.{pick};
-ghost use Rattle.alu.specs.Flags.{carry, zeroFlag, signFlag, overflowFlag, flagsByte, update, resetCarry, setCarry, complementCarry, conditionOn, condition};
+ghost use Rattle.alu.specs.Flags.{carry, zeroFlag, signFlag, overflowFlag, flagsByte, update, resetCarry, setCarry, complementCarry};
 ghost use Rattle.alu.specs.Operations.{biased, overflows, addition, subtraction, logical, operate, stores, increment, decrement, rotation, shiftRight, modify};
 use isa::Alu;
 use isa::Unary;
@@ -97,44 +97,6 @@ pub fn complement_carry(c: bool) -> FlagUpdate
     ensures { λ r. ⌜ r ≡ complementCarry c ⌝ }
 {
     FlagUpdate::Carry(!c)
-}
-
-// The condition with this number, of C, Z, S, V.
-fn condition_on(number: u8, c: bool, z: bool, s: bool, v: bool) -> bool
-    ensures { λ r. ⌜ r ≡ conditionOn number c z s v ⌝ }
-{
-    match number {
-        0 => false,
-        1 => s != v,
-        2 => z | (s != v),
-        3 => c | z,
-        4 => v,
-        5 => s,
-        6 => z,
-        7 => c,
-        8 => true,
-        9 => s == v,
-        10 => !z & (s == v),
-        11 => !c & !z,
-        12 => !v,
-        13 => !s,
-        14 => !z,
-        15 => !c,
-        _ => false,
-    }
-}
-
-// The condition cc of a FLAGS byte; the low 4 bits of cc count.
-pub fn condition(cc: u8, flags: u8) -> bool
-    ensures { λ r. ⌜ r ≡ condition cc flags ⌝ }
-{
-    condition_on(
-        cc % 16,
-        carry(flags),
-        zero_flag(flags),
-        sign_flag(flags),
-        overflow_flag(flags),
-    )
 }
 
 // The signed value of a byte, plus 128.

@@ -1,7 +1,7 @@
 // The certificate checker.
 ghost use mathlib.Core.Path.{_≡_};
 ghost use Rattle.base.specs.Lengths.{romLength};
-ghost use Rattle.base.specs.Outcome.Outcome.{refused};
+ghost use Rattle.base.specs.Outcome.Outcome.{value, refused};
 ghost use Rattle.certificate.specs.Layout.{certificateOf};
 ghost use Rattle.safety.specs.Verdicts.{costAt, rulesOn, rulesAt, firstBroken, numberAt, scan, verdictOf, Exact};
 ghost use Rattle.checker.specs.Located.{locatedIn, locatedAt, tested, numberUnless};
@@ -11,6 +11,7 @@ use base::RomAddr;
 use certificate::Summary;
 use certificate::Verdict;
 use isa::Decoded;
+use isa::Instruction;
 
 // The instruction at an address: its summary, and the address behind it.
 pub struct Located {
@@ -29,19 +30,22 @@ fn no_instruction(a: RomAddr) -> Located
     }
 }
 
+// The instruction that was decoded at an address.
+fn decoded_at(i: Instruction, n: u8, a: RomAddr) -> Located
+    ensures { λ r. ⌜ r ≡ locatedIn (value (i, n)) (a .0) ⌝ }
+{
+    let next = RomAddr(std::num::wrapping_add_u16(a.0, n as u16));
+    Located {
+        summary: summary::summary_of(action::action_of(i, next)),
+        next: next,
+    }
+}
+
 fn instruction_at(image: &[u8], a: RomAddr) -> Located
     ensures { λ r. ⌜ r ≡ locatedAt (now (image .entry)) (a .0) ⌝ }
 {
-    let d = decode::decode(image, a.0 as usize);
-    match d {
-        Decoded::Found(i, n) => {
-            let next = RomAddr(std::num::wrapping_add_u16(a.0, n as u16));
-            let s = summary::summary_of(action::action_of(i, next));
-            Located {
-                summary: s,
-                next: next,
-            }
-        }
+    match decode::decode(image, a.0 as usize) {
+        Decoded::Found(i, n) => decoded_at(i, n, a),
         Decoded::CutOff => no_instruction(a),
         Decoded::Undefined => no_instruction(a),
         Decoded::OddPair => no_instruction(a),

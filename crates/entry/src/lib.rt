@@ -70,9 +70,9 @@ pub fn entry_due(regs: &Registers, mode: Mode) -> bool
     ensures { λ r. ⌜ r ≡ entryDue (now (regs .entry)) mode ⌝ }
 {
     match mode {
-        Mode::Running => chip::interrupts_enabled(regs) & chip::pending_any(regs),
-        Mode::Idle => chip::interrupts_enabled(regs) & chip::pending_any(regs),
-        Mode::Stopped => chip::interrupts_enabled(regs) & chip::pending_edge(regs),
+        Mode::Running => interrupts::interrupts_enabled(regs) & interrupts::pending_any(regs),
+        Mode::Idle => interrupts::interrupts_enabled(regs) & interrupts::pending_any(regs),
+        Mode::Stopped => interrupts::interrupts_enabled(regs) & interrupts::pending_edge(regs),
     }
 }
 
@@ -149,7 +149,7 @@ pub fn enter(image: &[u8], s: Core, regs: &mut Registers) -> Ended
     let address = stack::push_address(regs, pc);
     let f = kept_flags(regs[base::FLAGS_INDEX]);
     let flags = stack::push(regs, f);
-    chip::set_interrupts(regs, false);
+    interrupts::set_interrupts(regs, false);
     let vector = RomAddr(operands::word(base::byte_at(image, 0), base::byte_at(image, 1)));
     finish(
         s,

@@ -88,7 +88,7 @@ fn jump(cc: u8, to: RomAddr, regs: &Registers, pc: RomAddr) -> Next
 {
     operands::goes_on(
         true,
-        pick_address(alu::condition(cc, regs[FLAGS_INDEX]), to, pc),
+        pick_address(conditions::condition(cc, regs[FLAGS_INDEX]), to, pc),
     )
 }
 
@@ -127,7 +127,7 @@ fn switch_interrupts(on: bool, regs: &mut Registers, pc: RomAddr) -> Next
     ensures regs { λ _. ⌜ now (regs .exit) ≡ setInterruptsOf (now (regs .entry)) on ⌝ }
     ensures next { λ r. ⌜ r ≡ goesOn true pc ⌝ }
 {
-    chip::set_interrupts(regs, on);
+    interrupts::set_interrupts(regs, on);
     operands::goes_on(true, pc)
 }
 

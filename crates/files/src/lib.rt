@@ -90,8 +90,8 @@ fn read_file(name: &[u8], buffer: &mut [u8]) -> Text
 pub fn judge_files(image_name: &[u8], certificate_name: &[u8], out: &mut [u8]) -> Written
     ensures { λ r. ⌜ Judges (writtenOutcome r) (now (out .entry)) (now (out .exit)) ⌝ }
 {
-    let mut image = judge_texts::blank_image();
-    let mut cert = judge_texts::blank_certificate();
+    let mut image = judge::blank_image();
+    let mut cert = judge::blank_certificate();
     let image_read = read_file(image_name, &mut image);
     let certificate_read = read_file(certificate_name, &mut cert);
     let verdict = checker::check(&image, &cert);

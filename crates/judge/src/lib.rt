@@ -4,11 +4,24 @@ ghost use lib.ListN.{length};
 ghost use Rattle.hex_text.specs.Text.{textOutcome};
 ghost use Rattle.hex_write.specs.ImageText.{writtenOutcome};
 ghost use Rattle.report.specs.Report.{reportAnswer, reportBuffer};
-ghost use Rattle.judge.specs.Judgement.{judgement};
+ghost use Rattle.judge.specs.Judgement.{blankImage, blankCertificate, judgement};
 use base::RomAddr;
 use certificate::Verdict;
 use hex_text::Text;
 use hex_write::Written;
+
+// The buffers before the texts are read.
+pub fn blank_image() -> [u8; base::IMAGE_LENGTH]
+    ensures { λ r. ⌜ r ≡ blankImage ⌝ }
+{
+    [0xFF; base::IMAGE_LENGTH]
+}
+
+pub fn blank_certificate() -> [u8; base::CERTIFICATE_LENGTH]
+    ensures { λ r. ⌜ r ≡ blankCertificate ⌝ }
+{
+    [0; base::CERTIFICATE_LENGTH]
+}
 
 // A refused image file decides, then a refused certificate file, then the checker's verdict.
 pub fn judge(image: Text, certificate: Text, verdict: Verdict) -> Verdict

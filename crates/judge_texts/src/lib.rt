@@ -2,29 +2,16 @@
 ghost use mathlib.Core.Path.{_≡_};
 ghost use lib.ListN.{length};
 ghost use Rattle.hex_write.specs.ImageText.{writtenOutcome};
-ghost use Rattle.judge.specs.Judgement.{blankImage, blankCertificate, printedAnswer, printedBuffer};
+ghost use Rattle.judge.specs.Judgement.{printedAnswer, printedBuffer};
 use hex_write::Written;
-
-// The buffers before the texts are read.
-pub fn blank_image() -> [u8; base::IMAGE_LENGTH]
-    ensures { λ r. ⌜ r ≡ blankImage ⌝ }
-{
-    [0xFF; base::IMAGE_LENGTH]
-}
-
-pub fn blank_certificate() -> [u8; base::CERTIFICATE_LENGTH]
-    ensures { λ r. ⌜ r ≡ blankCertificate ⌝ }
-{
-    [0; base::CERTIFICATE_LENGTH]
-}
 
 // Reads an image text and a certificate text, and writes what is printed of them at the front of a buffer. A refusal, by 7, leaves the buffer as it was.
 pub fn judge_texts(image: &[u8], certificate: &[u8], out: &mut [u8]) -> Written
     ensures { λ r. ⌜ writtenOutcome r ≡ printedAnswer (now (image .entry)) (now (certificate .entry)) (length (now (out .entry))) ⌝ }
     ensures { λ r. ⌜ now (out .exit) ≡ printedBuffer (now (image .entry)) (now (certificate .entry)) (now (out .entry)) ⌝ }
 {
-    let mut rom = blank_image();
-    let mut cert = blank_certificate();
+    let mut rom = judge::blank_image();
+    let mut cert = judge::blank_certificate();
     let image_read = hex_text::read_text(image, &mut rom);
     let certificate_read = hex_text::read_text(certificate, &mut cert);
     let verdict = checker::check(&rom, &cert);

@@ -125,6 +125,6 @@ pub fn interrupt_return(regs: &mut Registers, rec: &Inputs) -> Next
     let high = RegAddr(regs[SP_INDEX]);
     let t = return_from_call(regs, rec);
     let to = t.pc;
-    chip::set_interrupts(regs, true);
+    interrupts::set_interrupts(regs, true);
     operands::goes_on(chip::mapped(top) & operands::word_mapped(high), to)
 }

@@ -84,7 +84,7 @@ fn act(image: &[u8], s: Core, regs: &mut Registers, rec: &Inputs) -> Ended
     let before = *regs;
     let mode = s.mode;
     let requests = rec[0];
-    chip::post(regs, entry::acting_requests(mode, requests));
+    interrupts::post(regs, entry::acting_requests(mode, requests));
     let due = entry::entry_due(regs, mode);
     let r = after_requests(due, image, s, regs, rec);
     put_back(regs, before, r.stop == 0);

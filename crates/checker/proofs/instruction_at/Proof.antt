@@ -18,20 +18,11 @@ cast-decode c = search needs
 decode-requires : tie.Need-decode-requires
 decode-requires c κs = search needs
 
-enum-known-d : tie.Need-enum-known-d
-enum-known-d c = search needs
+enum-known-i : tie.Need-enum-known-i
+enum-known-i c = search needs
 
-cast-wrapping-add-u16 : tie.Need-cast-wrapping-add-u16
-cast-wrapping-add-u16 c = search needs
-
-wrapping-add-u16-requires : tie.Need-wrapping-add-u16-requires
-wrapping-add-u16-requires c κs = search needs
-
-action-of-requires : tie.Need-action-of-requires
-action-of-requires c κs = search needs
-
-summary-of-requires : tie.Need-summary-of-requires
-summary-of-requires c κs = search needs
+decoded-at-requires : tie.Need-decoded-at-requires
+decoded-at-requires c κs = search needs
 
 enum-told : tie.Need-enum-told
 enum-told c = search needs
@@ -57,13 +48,10 @@ located a {d} {e} {o} p q =
     ap (λ (d : Decoded). locatedIn (decoded d) a) (sym p) ∙ ap (λ (o : Outcome (Instruction × ℕ)). locatedIn o a) q
 
 returns : tie.Need-returns
-unfolding locatedIn summaryFrom
 returns c =
-    let b = c .before .before .before .before in
+    let b = c .before .before in
     let g = b .before .before .before .before .before .args in
-    _∙_ {b = locatedIn (value (b .d .given .0 .0, b .d .given .0 .1 .0)) (g .a .0)}
-    (simp (c .summary-of .ensures, c .before .action-of .ensures, c .before .before .wrapping-add-u16 .ensures))
-    (located (g .a .0) (b .d .given .1) (b .before .before .decode .ensures))
+    c .decoded-at .ensures ∙ located (g .a .0) (b .i .given .1) (b .before .before .decode .ensures)
 
 returns-2 : tie.Need-returns-2
 unfolding locatedIn summaryFrom
@@ -92,11 +80,8 @@ instruction-at-spec =
     (tie.spec
     cast-decode
     decode-requires
-    enum-known-d
-    cast-wrapping-add-u16
-    wrapping-add-u16-requires
-    action-of-requires
-    summary-of-requires
+    enum-known-i
+    decoded-at-requires
     enum-told
     no-instruction-requires
     enum-told-2

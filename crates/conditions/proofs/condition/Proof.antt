@@ -1,9 +1,9 @@
 -- The condition of the byte's four flags, by the low 4 bits of its number.
 -- Assumes nothing.
 use borrow.Author.Needs.{needs}
 use Rattle.alu.specs.Flags.{condition}
-use Rattle.alu.proofs.condition.Statement.{statement}
-use Rattle.alu.proofs.condition.Tie as tie
+use Rattle.conditions.proofs.condition.Statement.{statement}
+use Rattle.conditions.proofs.condition.Tie as tie
 
 carry-requires : tie.Need-carry-requires
 carry-requires c κs = search needs

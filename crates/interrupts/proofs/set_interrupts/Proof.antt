@@ -1,9 +1,9 @@
 -- The byte that is written is what a store of SYM's one kept bit leaves.
 use Rattle.chip.specs.Registers.{keptBits, writtenOf, keptOf, storeOf}
 use Rattle.chip.specs.Interrupts.{setInterruptsOf}
 use borrow.Author.Needs.{needs}
-use Rattle.chip.proofs.set_interrupts.Statement.{statement}
-use Rattle.chip.proofs.set_interrupts.Tie as tie
+use Rattle.interrupts.proofs.set_interrupts.Statement.{statement}
+use Rattle.interrupts.proofs.set_interrupts.Tie as tie
 
 element-write-regs : tie.Need-element-write-regs
 element-write-regs c = search needs

@@ -1,8 +1,8 @@
 -- A byte without requests leaves the registers; else the five bits are raised in the definition's order.
 use Rattle.chip.specs.Interrupts.{raiseOf, postOf}
 use borrow.Author.Needs.{needs}
-use Rattle.chip.proofs.post.Statement.{statement}
-use Rattle.chip.proofs.post.Tie as tie
+use Rattle.interrupts.proofs.post.Statement.{statement}
+use Rattle.interrupts.proofs.post.Tie as tie
 
 returns : tie.Need-returns
 unfolding postOf raiseOf

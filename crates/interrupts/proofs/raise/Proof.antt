@@ -1,8 +1,8 @@
 -- The bits are set where the request is on; else nothing changes.
 use Rattle.chip.specs.Interrupts.{raiseOf}
 use borrow.Author.Needs.{needs}
-use Rattle.chip.proofs.raise.Statement.{statement}
-use Rattle.chip.proofs.raise.Tie as tie
+use Rattle.interrupts.proofs.raise.Statement.{statement}
+use Rattle.interrupts.proofs.raise.Tie as tie
 
 cast-i : tie.Need-cast-i
 cast-i c = search needs

@@ -1,9 +1,9 @@
 -- Bit 2 of SYM's byte is the definition's test.
 use mathlib.Core.Path.{refl}
 use Rattle.chip.specs.Interrupts.{interruptsEnabled}
 use borrow.Author.Needs.{needs}
-use Rattle.chip.proofs.interrupts_enabled.Statement.{statement}
-use Rattle.chip.proofs.interrupts_enabled.Tie as tie
+use Rattle.interrupts.proofs.interrupts_enabled.Statement.{statement}
+use Rattle.interrupts.proofs.interrupts_enabled.Tie as tie
 
 element-copy-out-result : tie.Need-element-copy-out-result
 element-copy-out-result c = search needs

@@ -1,9 +1,9 @@
 -- The two tests of E8H are the definition's.
 use mathlib.Core.Path.{refl}
 use Rattle.chip.specs.Interrupts.{pendingEdge}
 use borrow.Author.Needs.{needs}
-use Rattle.chip.proofs.pending_edge.Statement.{statement}
-use Rattle.chip.proofs.pending_edge.Tie as tie
+use Rattle.interrupts.proofs.pending_edge.Statement.{statement}
+use Rattle.interrupts.proofs.pending_edge.Tie as tie
 
 element-copy-out-result : tie.Need-element-copy-out-result
 element-copy-out-result c = search needs

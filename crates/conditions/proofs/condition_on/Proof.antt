@@ -3,9 +3,9 @@
 use mathlib.Core.Bool.{false}
 use mathlib.Core.Path.{sym}
 use Rattle.base.specs.ChoiceLaws.{choose-miss}
 use Rattle.alu.specs.Flags.{conditions, conditionOn}
-use Rattle.alu.proofs.condition_on.Statement.{statement}
-use Rattle.alu.proofs.condition_on.Tie as tie
+use Rattle.conditions.proofs.condition_on.Statement.{statement}
+use Rattle.conditions.proofs.condition_on.Tie as tie
 
 returns : tie.Need-returns
 unfolding conditionOn

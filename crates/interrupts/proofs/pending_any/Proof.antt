@@ -1,8 +1,8 @@
 -- The tests of D2H and F3H, or an external source, as defined.
 use Rattle.chip.specs.Interrupts.{pendingAny}
 use borrow.Author.Needs.{needs}
-use Rattle.chip.proofs.pending_any.Statement.{statement}
-use Rattle.chip.proofs.pending_any.Tie as tie
+use Rattle.interrupts.proofs.pending_any.Statement.{statement}
+use Rattle.interrupts.proofs.pending_any.Tie as tie
 
 element-copy-out-result : tie.Need-element-copy-out-result
 element-copy-out-result c = search needs
