@@ -30,7 +30,7 @@ fn no_instruction(a: RomAddr) -> Located
     }
 }
 
-// The instruction that was decoded at an address.
+// The instruction of n bytes that was decoded at an address.
 fn decoded_at(i: Instruction, n: u8, a: RomAddr) -> Located
     ensures { λ r. ⌜ r ≡ locatedIn (value (i, n)) (a .0) ⌝ }
 {

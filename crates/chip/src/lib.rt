@@ -1,4 +1,4 @@
-// The register file of the S3F9454: which addresses are mapped, what a read gives, what a write leaves, interrupt bits, reset.
+// The register file of the S3F9454: which addresses are mapped, what a read gives, what a write leaves, reset.
 ghost use mathlib.Core.Path.{_≡_};
 ghost use Rattle.chip.specs.Registers.{keptBits, mappedOf, loadOf, writtenF7, writtenOf, keptOf, storeOf};
 ghost use Rattle.chip.specs.Reset.{resetRegisters};

@@ -1,4 +1,4 @@
-// The judgement of an image file and a certificate file that were read.
+// The judgement of an image file and a certificate file that were read, and the buffers that they are read into.
 ghost use mathlib.Core.Path.{_≡_};
 ghost use lib.ListN.{length};
 ghost use Rattle.hex_text.specs.Text.{textOutcome};
@@ -10,7 +10,7 @@ use certificate::Verdict;
 use hex_text::Text;
 use hex_write::Written;
 
-// The buffers before the texts are read.
+// The buffers before the files are read.
 pub fn blank_image() -> [u8; base::IMAGE_LENGTH]
     ensures { λ r. ⌜ r ≡ blankImage ⌝ }
 {

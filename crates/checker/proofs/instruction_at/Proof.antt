@@ -1,10 +1,9 @@
 -- An instruction is located by what the decoder answers at the address, case by case.
-use Rattle.base.specs.Outcome.Outcome.{value}
 use Rattle.base.specs.Outcome.{Outcome}
 use Rattle.isa.specs.Answer.{decoded}
 use Rattle.isa.specs.declared.Instruction.{Instruction}
 use Rattle.isa.specs.declared.Decoded.{Decoded}
-use Prim.Native.Nat.{ℕ, _-_}
+use Prim.Native.Nat.{ℕ}
 use mathlib.Core.Path.{_≡_, sym, ap, _∙_}
 use Rattle.checker.specs.Located.{locatedIn}
 use Rattle.safety.specs.Verdicts.{summaryFrom}
