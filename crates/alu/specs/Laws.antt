@@ -10,6 +10,7 @@ use lib.Dec.{eqb, leb, ltb}
 use lib.Bits.{and-le-l, and-le-r, or-lt, xor-lt}
 use borrow.Author.Tests.{eqb-true, ltb-true, lt-ltb, le-ltb, le-leb, lt-leb, eq-eqb, ne-eqb}
 use Rattle.base.specs.Choice.{pick}
+use Rattle.base.specs.ChoiceLaws.{pick-has}
 use Rattle.base.specs.Formula.{sound, same?, le?}
 use Rattle.base.specs.Formula.Formula.{test, forallBelow}
 use Rattle.isa.specs.declared.Alu.{Alu}
@@ -188,8 +189,7 @@ operate-bound Cp x y c hx hy = omega arith
 operate-bound Xor x y c hx hy = xor-lt 8 x y hx hy
 
 pick-bound : (b : Bool) (w : ℕ) → pick b w 0 ≤ w
-pick-bound true w = omega arith
-pick-bound false w = omega arith
+pick-bound b w = pick-has (λ (n : ℕ). n ≤ w) b w 0 (λ _. omega arith) (λ _. omega arith)
 
 pub modify-bound : (op : Unary) (x : ℕ) (c : Bool) → x < 256 → modify op x c .value < 256
 unfolding modify decrement increment logical rotation shiftRight

@@ -1,6 +1,7 @@
 // Prints the names of an image file and a certificate file and their judgement, for each case; at the end the judgement of two texts.
 use hex_write::Written;
 use libc::STDOUT_FILENO;
+use report::REPORT_LENGTH;
 
 fn print(text: &[u8]) {
     io::write_all(STDOUT_FILENO, text);
@@ -23,7 +24,7 @@ fn example(image_name: &[u8], certificate_name: &[u8]) {
     print(b" ");
     print(certificate_name);
     print(b"\n");
-    let mut out = [0u8; 1143];
+    let mut out = [0u8; REPORT_LENGTH];
     let written = files::judge_files(image_name, certificate_name, &mut out);
     print_written(written, &out);
 }
@@ -42,7 +43,7 @@ fn example_of_texts() {
     read_whole(b"p_image.hex", &mut image);
     read_whole(b"p_cert.hex", &mut certificate);
     print(b"two texts\n");
-    let mut out = [0u8; 1143];
+    let mut out = [0u8; REPORT_LENGTH];
     let written = judge_texts::judge_texts(&image, &certificate, &mut out);
     print_written(written, &out);
 }

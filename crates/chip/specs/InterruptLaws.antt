@@ -54,13 +54,13 @@ post-bytes regs b h =
 -- The interrupt enable
 
 -- what leaves SYM as it is leaves the enable
-enabled-by : (xs ys : List ℕ) → getD xs symCell 0 ≡ getD ys symCell 0 → interruptsEnabled xs ≡ interruptsEnabled ys
+pub enabled-same : (regs after : List ℕ) → getD after symCell 0 ≡ getD regs symCell 0 → interruptsEnabled after ≡ interruptsEnabled regs
 unfolding interruptsEnabled
-enabled-by xs ys e = rw e
+enabled-same regs after e = rw e
 
 pub post-enabled : (regs : List ℕ) (b : ℕ) → interruptsEnabled (postOf regs b) ≡ interruptsEnabled regs
 post-enabled regs b =
-    enabled-by (postOf regs b) regs (post-other regs b symCell (λ e. omega arith) (λ e. omega arith) (λ e. omega arith) (λ e. omega arith))
+    enabled-same regs (postOf regs b) (post-other regs b symCell (λ e. omega arith) (λ e. omega arith) (λ e. omega arith) (λ e. omega arith))
 
 -- a write to SYM: bit 2 of what is written
 pub store-enabled : (regs : List ℕ) (v : ℕ) → symCell < length regs → interruptsEnabled (storeOf regs symCell v) ≡ eqb (v / 4 % 2) 1

@@ -5,7 +5,7 @@ ghost use Prim.Native.Nat.{ℕ, _-_};
 ghost use mathlib.Core.Bool.{true, false};
 ghost use Rattle.base.specs.Choice.{pick};
 ghost use Rattle.base.specs.Formula.{decide};
-ghost use Rattle.certificate.specs.Layout.{Certificate, certificateOf};
+ghost use Rattle.certificate.specs.Layout.{Certificate};
 ghost use Rattle.entries.specs.Fields.{entryOf};
 ghost use Rattle.safety.specs.Rules.{changeOf};
 ghost use Rattle.claims.specs.Values.{edgeOf, among, noneAmong, staysWithin, allWithin, valuesOf, feasibleFor, changeIn, pointedAt};
@@ -65,29 +65,10 @@ pub fn high_in(n: Entry, x: RegAddr) -> u8
     255
 }
 
-fn claimed_in(n: Entry, x: RegAddr) -> bool
+pub fn claimed_in(n: Entry, x: RegAddr) -> bool
     ensures { λ r. ⌜ ((C : Certificate) (a : ℕ) → n ≡ entryOf C a → r ≡ decide (Rattle.safety.specs.Rules.claimed C a (x .0))) ⌝ }
 {
     (x.0 != NO_CELL) & ((x.0 == n.first.cell.0) | (x.0 == n.second.cell.0))
-}
-
-// The same at an address.
-pub fn low(cert: &[u8], a: RomAddr, x: RegAddr) -> u8
-    ensures { λ r. ⌜ r ≡ Rattle.safety.specs.Rules.low (certificateOf (now (cert .entry))) (a .0) (x .0) ⌝ }
-{
-    low_in(entries::entry_of(entries::entry_part(cert, a)), x)
-}
-
-pub fn high(cert: &[u8], a: RomAddr, x: RegAddr) -> u8
-    ensures { λ r. ⌜ r ≡ Rattle.safety.specs.Rules.high (certificateOf (now (cert .entry))) (a .0) (x .0) ⌝ }
-{
-    high_in(entries::entry_of(entries::entry_part(cert, a)), x)
-}
-
-pub fn claimed(cert: &[u8], a: RomAddr, x: RegAddr) -> bool
-    ensures { λ r. ⌜ r ≡ decide (Rattle.safety.specs.Rules.claimed (certificateOf (now (cert .entry))) (a .0) (x .0)) ⌝ }
-{
-    claimed_in(entries::entry_of(entries::entry_part(cert, a)), x)
 }
 
 // The cell is compared, and claimed.

@@ -1,7 +1,11 @@
--- The customer's three demands, word for word, as theorems over the definitions. The contract of each public call says that its answer and every
--- lent byte are what its definition gives: `decode` decodeAt; `encode` encodeAnswer, encodeInto; `copy_instruction` copyAnswer, copyInto;
--- `read_line` readLine, lineBuffer; `read_text` textAnswer, textBuffer; `feed` feedBuffer; `finish` finishAnswer; `write_image` writeAnswer,
--- writeBuffer; `write_report` reportAnswer, reportBuffer; `judge_texts` printedAnswer, printedBuffer; `step` stepOf; `run` runOf; `check` verdictOf.
+-- The customer's three demands, word for word, as theorems over the definitions. The contract of each call of the product says that its answer
+-- and every lent byte are what its definition gives:
+--   `decode` decodeAt; `encode` encodeAnswer, encodeInto; `copy_instruction` copyAnswer, copyInto;
+--   `check_line` readLine; `read_line` readLine, lineBuffer; `read_text` textAnswer, textBuffer;
+--   `start` started; `feed` feedStream, feedBuffer; `finish` finishAnswer; `write_image` writeAnswer, writeBuffer;
+--   `reset` resetState; `step` stepOf; `run` runOf; `check` verdictOf;
+--   `write_report` reportAnswer, reportBuffer; `judge_texts` printedAnswer, printedBuffer.
+-- `judge_files` promises what `judge_texts` does of some two texts: no contract can say what a file holds.
 -- A call reaches no memory but what it is lent: the language has no other.
 -- Assumes nothing.
 use Prim.Native.Nat.{ℕ, _+_, _-_, _/_, _≤_, _<_}
@@ -12,7 +16,9 @@ use lib.ListN.{length, getD, take, drop}
 use lib.Dec.{ltb, leb}
 use borrow.Author.Tests.{lt-ltb}
 use Rattle.base.specs.declared.RomAddr.{RomAddr}
+use Rattle.base.specs.Cells.{Bytes}
 use Rattle.base.specs.Choice.{pick}
+use Rattle.base.specs.Lengths.{romLength}
 use Rattle.base.specs.Outcome.{Outcome}
 use Rattle.base.specs.Outcome.Outcome.{value, refused}
 use Rattle.isa.specs.declared.Instruction.{Instruction}
@@ -32,7 +38,7 @@ use Rattle.semantics.specs.declared.State.{State}
 use Rattle.semantics.specs.Step.{stepOf}
 use Rattle.semantics.specs.Run.{runOf}
 use Rattle.semantics.specs.Refusals.{StepNumber, Stops, step-stops, run-number}
-use Rattle.machine.specs.Count.{completedSteps, totalCost, Counted, run-counted}
+use Rattle.machine.specs.Count.{completedSteps, stateBehind, totalCost, Counted, run-state, run-counted}
 use Rattle.hex_line.specs.declared.Reader.{Reader}
 use Rattle.hex_line.specs.Line.{readLine, lineBuffer}
 use Rattle.hex_line.specs.Refusals.{line-number, line-unchanged, length-lineBuffer}
@@ -40,14 +46,14 @@ use Rattle.hex_text.specs.declared.Stream.{Stream}
 use Rattle.hex_text.specs.Text.{textAnswer, textBuffer}
 use Rattle.hex_text.specs.Stream.{feedBuffer, finishAnswer}
 use Rattle.hex_text.specs.Refusals.{text-number, text-unchanged, length-textBuffer, finish-number, length-feedBuffer}
-use Rattle.hex_write.specs.ImageText.{writeAnswer, writeBuffer}
+use Rattle.hex_write.specs.ImageText.{textLength, writeAnswer, writeBuffer}
 use Rattle.hex_write.specs.Refusals.{write-number, write-unchanged, length-writeBuffer}
-use Rattle.hex_write.specs.ReadBack.{ReadsBack, write-reads-back}
+use Rattle.hex_write.specs.ReadBack.{ReadsBack, written-whole, write-reads-back}
 use Rattle.certificate.specs.declared.Verdict.{Verdict}
 use Rattle.certificate.specs.declared.Verdict.the-variants.{Accepted, Refused}
 use Rattle.certificate.specs.Layout.{certificateOf}
-use Rattle.safety.specs.Verdicts.{verdictOf, Broken, Exact}
-use Rattle.safety.specs.Exact.{CheckNumber, verdict-number, accepted-when, exact}
+use Rattle.safety.specs.Verdicts.{verdictOf, Broken, Reports, Exact}
+use Rattle.safety.specs.Exact.{CheckNumber, verdict-number, accepted-only-when, accepted-when, refused-only-when, refused-when, exact}
 use Rattle.safety.specs.Statement.{Demand3}
 use Rattle.safety.specs.Theorem.{demand3}
 use Rattle.report.specs.Report.{reportAnswer, reportBuffer}
@@ -55,9 +61,6 @@ use Rattle.report.specs.Refusals.{report-number, report-unchanged, length-repor
 use Rattle.judge.specs.Judgement.{printedAnswer, printedBuffer}
 use Rattle.judge.specs.Refusals.{printed-number, printed-unchanged, length-printedBuffer}
 use Rattle.logger_cases.specs.Cases.{AllHold, cases, all-hold}
-
-abbrev Bytes : List ℕ → Type 0
-Bytes l = (i : ℕ) → getD l i 0 < 256
 
 -- Demand 1. Lent memory holds after every call exactly what document 01 says it holds: input of any length and content is worked through to an end
 -- or refused by a number in 01's table, nothing outside a lent buffer is touched, and a refusal leaves its output buffer unchanged --
@@ -128,12 +131,17 @@ step-stops-right image s rec = step-stops s image rec
 pub run-refuses : (image : List ℕ) (s : State) (schedule : List ℕ) → StepNumber (runOf image s schedule .stop)
 run-refuses image s schedule = run-number image schedule s
 
+-- a run returns the state behind its completed steps: a step that is refused adds nothing to it
+pub run-leaves : (image schedule : List ℕ) (s : State)
+    → runOf image s schedule .state ≡ stateBehind (completedSteps image s schedule) image schedule 0 s
+run-leaves = run-state
+
 pub check-refuses : (image cert : List ℕ) (n : ℕ) (a : RomAddr) → verdictOf image cert ≡ Refused n a → CheckNumber n
 check-refuses = verdict-number
 
 -- Demand 2. Each of the 256 first bytes decodes as the manual and 01 say, --
 
--- by the cell of table 6-5 as printed (with 01's corrections) for the first byte, and the bytes behind it
+-- by the cell of table 6-5 for the first byte, as printed but for 01's ADC and the pages of EFH and FFH, and by the bytes behind it
 pub first-bytes-as-printed : (s : List ℕ) → Bytes s → (at : ℕ) → at < length s
     → decodeAt s at
     ≡ (let cell = getD manual.printed (getD s at 0) empty in
@@ -149,8 +157,9 @@ pub decoded-encodes-back : (s : List ℕ) (at : ℕ) → Bytes s → (i : Instru
     × (encodeInto i out ≡ pick (ltb (length out) n) out (take n (drop at s) ++ drop n out))
 decoded-encodes-back = re-encoded
 
--- every step leaves the registers, flags, program counter and cycle total they print: `stepOf`, one definition an action. Of it, 01's cases (a) to
--- (l), and a run's steps and cycles, --
+-- every step leaves the registers, flags, program counter and cycle total they print, --
+
+-- by the contract of `step`: `stepOf`, one definition an action. Of it 01's cases (a) to (l), and a run's steps and cycles
 pub logger-cases : AllHold cases
 logger-cases = all-hold
 
@@ -159,14 +168,24 @@ pub steps-and-cycles : (image schedule : List ℕ) (s : State) → s .cycles < 4
 steps-and-cycles = run-counted
 
 -- an image written as Intel HEX reads back to itself, --
-pub written-reads-back : (m out : List ℕ) → Bytes m → ReadsBack (writeAnswer (length m) (length out)) m (writeBuffer m out)
-written-reads-back = write-reads-back
+pub written-reads-back : (m out : List ℕ) → Bytes m → length m ≡ romLength → textLength ≤ length out
+    → (writeAnswer (length m) (length out) ≡ value textLength) × ReadsBack (value textLength) m (writeBuffer m out)
+written-reads-back m out byte size room =
+    let e = written-whole (length m) (length out) size room in
+    (e, rw e at (write-reads-back m out byte))
 
 -- and the checker accepts exactly when no rule of 01 is broken --
-pub accepts-when-none-broken : (image cert : List ℕ) → ((n a : ℕ) → Broken image cert n a → ⊥) → verdictOf image cert ≡ Accepted
-accepts-when-none-broken = accepted-when
+pub accepts-exactly : (image cert : List ℕ)
+    → (verdictOf image cert ≡ Accepted → (n a : ℕ) → Broken image cert n a → ⊥)
+    × (((n a : ℕ) → Broken image cert n a → ⊥) → verdictOf image cert ≡ Accepted)
+accepts-exactly image cert = (accepted-only-when image cert, accepted-when image cert)
 
--- and this both ways, for each verdict
+-- and refuses by n at a exactly when rule n is broken at a, no lower rule is broken at a, and none at a lower address
+pub refuses-exactly : (image cert : List ℕ) (n : ℕ) (a : RomAddr)
+    → (verdictOf image cert ≡ Refused n a → Reports image cert (Refused n a)) × (Reports image cert (Refused n a) → verdictOf image cert ≡ Refused n a)
+refuses-exactly image cert n a = (refused-only-when image cert n a, refused-when image cert n a)
+
+-- both, as `check` promises them
 pub check-exact : (image cert : List ℕ) → Exact image cert (verdictOf image cert)
 check-exact = exact
 

@@ -108,7 +108,7 @@ length-textBuffer text m = by-answer (textAnswer text (length m))
 
 pub length-pushBuffer : (s : Stream) (c : ℕ) (m : List ℕ) → length (pushBuffer s c m) ≡ length m
 unfolding pushBuffer
-length-pushBuffer s c m = by-test (eqb (s .number) 0) (leb 523 (s .count)) (eqb c 10)
+length-pushBuffer s c m = by-test (eqb (s .number) 0) (leb longest (s .count)) (eqb c 10)
   where
     by-test : (a b d : Bool)
         → length (pick a (pick b m (pick d (lineBuffer (s .reader) (heldLine (appended s c)) m) m)) m) ≡ length m

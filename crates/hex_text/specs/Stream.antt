@@ -26,7 +26,7 @@ streamOf reader held count number = record { reader = reader; held = held; count
 
 -- before the first piece
 abbrev pub started : Stream
-started = streamOf begun (replicate 523 0) 0 0
+started = streamOf begun (replicate longest 0) 0 0
 
 -- the unfinished line
 abbrev pub heldLine : Stream → List ℕ

@@ -23,7 +23,7 @@ use Rattle.hex_line.specs.declared.Reader.{Reader}
 use Rattle.hex_text.specs.declared.Stream.{Stream}
 use Rattle.hex_text.specs.Text.{lines, firstLength, endAnswer, linesAnswer, linesBuffer, textAnswer, textBuffer}
 use Rattle.hex_text.specs.TextLaws.{Plain, plain-append, first-line-of, first-line, no-line, last-line, first-behind, first-positive, first-within}
-use Rattle.hex_text.specs.Stream.{streamOf, started, longNumber, pushStream, pushBuffer, feedStream, feedBuffer, finishAnswer, Leaves}
+use Rattle.hex_text.specs.Stream.{longest, streamOf, started, longNumber, pushStream, pushBuffer, feedStream, feedBuffer, finishAnswer, Leaves}
 use Rattle.hex_text.specs.StreamLaws.{feed-refused}
 use Rattle.hex_text.specs.Refusals.{long-number, length-pushBuffer, length-feedBuffer}
 
@@ -84,7 +84,7 @@ body-bounds l = by-test (eqb (getD l (length l - 1) 0) 10) (eqb (getD l (length 
     by-test false b = (omega arith, omega arith)
 
 -- a line longer than any valid one
-pub long-refused : (reader : Reader) (n : ℕ) (l : List ℕ) → 523 < length l → readLine reader n l ≡ refused (longNumber reader n)
+pub long-refused : (reader : Reader) (n : ℕ) (l : List ℕ) → longest < length l → readLine reader n l ≡ refused (longNumber reader n)
 unfolding readLine
 long-refused reader n l h =
     let b = body-bounds l in
@@ -150,44 +150,44 @@ Same n t reader held count m =
     × Leaves (answerFrom reader n (take count held ++ t)) (linesBuffer (lines (take count held ++ t)) reader m)
     (feedBuffer (streamOf reader held count 0) t m)
 
-same-end : (n : ℕ) (reader : Reader) (held : List ℕ) (count : ℕ) (m : List ℕ) → length m ≡ n → length held ≡ 523 → count ≤ 523
+same-end : (n : ℕ) (reader : Reader) (held : List ℕ) (count : ℕ) (m : List ℕ) → length m ≡ n → length held ≡ longest → count ≤ longest
     → Plain (take count held) → Same n [] reader held count m
 unfolding feedStream feedBuffer finishAnswer linesAnswer linesBuffer
 same-end n reader held zero m e w h p = rw no-line (refl, leaves-same (pick (bufferLength n) (endAnswer reader) (refused 7)) refl)
 same-end n reader [] (suc count) m e w h p = let z : ⊥ = omega arith in absurd z
 same-end n reader (x ∷ held) (suc count) m e w h p =
     let z : suc count ≡ 0 → ⊥ = omega arith in
-    rw (← e, last-line x (take count held) p, le-leb (suc count) 523 h, ne-eqb (suc count) 0 z)
+    rw (← e, last-line x (take count held) p, le-leb (suc count) longest h, ne-eqb (suc count) 0 z)
     (refl, last-leaves reader (x ∷ take count held) m)
 
 module _ (n : ℕ) (t : List ℕ) (c : ℕ) (reader : Reader) (held : List ℕ) (count : ℕ) (m : List ℕ) (e : length m ≡ n)
-    (w : length held ≡ 523) (p : Plain (take count held)) where
+    (w : length held ≡ longest) (p : Plain (take count held)) where
   -- the line is as long as a valid one can be, and goes on
-  same-long : 523 ≤ count → count ≤ 523 → Same n (c ∷ t) reader held count m
+  same-long : longest ≤ count → count ≤ longest → Same n (c ∷ t) reader held count m
   unfolding feedStream feedBuffer pushStream pushBuffer linesAnswer linesBuffer
   same-long a h =
       let x = take count held ++ (c ∷ t) in
       let l = take (firstLength x) x in
       let f : firstLength x ≡ length (take count held) + firstLength (c ∷ t) = first-behind (take count held) (c ∷ t) p in
       let k : length (take count held) ≡ count = length-take-le count held (omega arith) in
-      let long : 523 < length l = rw (length-take-le (firstLength x) x (first-within x)) (omega (arith, first-positive c t)) in
+      let long : longest < length l = rw (length-take-le (firstLength x) x (first-within x)) (omega (arith, first-positive c t)) in
       let g : readLine reader n l ≡ refused (longNumber reader n) = long-refused reader n l long in
       let r = ends-refused n (streamOf reader held count (longNumber reader n)) t (long-number reader n) in
       let b = refused-stands reader n l (longNumber reader n) g in
       let o : lines x ≡ l ∷ lines (drop (firstLength x) x) =
       first-line-of x (omega (arith, length-append (take count held) (c ∷ t))) in
-      rw (e, le-leb 523 count a, o, e, g, b) (r, tt)
+      rw (e, le-leb longest count a, o, e, g, b) (r, tt)
 
   -- any other character than LF
-  same-character : count < 523 → (c ≡ 10 → ⊥) → Same n t reader (set held count c) (count + 1) m → Same n (c ∷ t) reader held count m
+  same-character : count < longest → (c ≡ 10 → ⊥) → Same n t reader (set held count c) (count + 1) m → Same n (c ∷ t) reader held count m
   unfolding feedStream feedBuffer pushStream pushBuffer
   same-character a d ih =
       let o : take (count + 1) (set held count c) ++ t ≡ take count held ++ (c ∷ t) =
       rw (held-more held count c (omega arith)) (append-assoc (take count held) (c ∷ []) t) in
-      rw (e, lt-leb 523 count a, ne-eqb c 10 d) (rw o at ih)
+      rw (e, lt-leb longest count a, ne-eqb c 10 d) (rw o at ih)
 
   -- LF
-  same-line : count < 523 → c ≡ 10 → ((next : Reader) (m : List ℕ) → length m ≡ n → Same n t next (set held count c) 0 m)
+  same-line : count < longest → c ≡ 10 → ((next : Reader) (m : List ℕ) → length m ≡ n → Same n t next (set held count c) 0 m)
       → Same n (c ∷ t) reader held count m
   unfolding feedStream feedBuffer pushStream pushBuffer linesAnswer linesBuffer
   same-line a d ih = by-answer (readLine reader n (take (count + 1) (set held count c))) refl
@@ -200,26 +200,26 @@ module _ (n : ℕ) (t : List ℕ) (c : ℕ) (reader : Reader) (held : List ℕ) 
 
       by-answer : (x : Outcome Reader) → readLine reader n (take (count + 1) (set held count c)) ≡ x → Same n (c ∷ t) reader held count m
       by-answer (value next) g =
-          rw (e, lt-leb 523 count a, eq-eqb c 10 d, o, e, g)
+          rw (e, lt-leb longest count a, eq-eqb c 10 d, o, e, g)
           (ih next (lineBuffer reader l m) (length-lineBuffer reader l m ∙ e))
       by-answer (refused k) g =
           let r = ends-refused n (streamOf reader (set held count c) (count + 1) k) t (line-number reader n l k g) in
-          rw (e, lt-leb 523 count a, eq-eqb c 10 d, o, e, g, refused-stands reader n l k g) (r, tt)
+          rw (e, lt-leb longest count a, eq-eqb c 10 d, o, e, g, refused-stands reader n l k g) (r, tt)
 
 abbrev Follows : ℕ → List ℕ → Type 0
 Follows n t =
-    (reader : Reader) (held : List ℕ) (count : ℕ) (m : List ℕ) → length m ≡ n → length held ≡ 523 → count ≤ 523
+    (reader : Reader) (held : List ℕ) (count : ℕ) (m : List ℕ) → length m ≡ n → length held ≡ longest → count ≤ longest
     → Plain (take count held) → Same n t reader held count m
 
-same : (n : ℕ) (t : List ℕ) (reader : Reader) (held : List ℕ) (count : ℕ) (m : List ℕ) → length m ≡ n → length held ≡ 523
-    → count ≤ 523 → Plain (take count held) → Same n t reader held count m
+same : (n : ℕ) (t : List ℕ) (reader : Reader) (held : List ℕ) (count : ℕ) (m : List ℕ) → length m ≡ n → length held ≡ longest
+    → count ≤ longest → Plain (take count held) → Same n t reader held count m
 same n [] reader held count m e w h p = same-end n reader held count m e w h p
-same n (c ∷ t) reader held count m e w h p = by-room (le? 523 count) (same? c 10) (same n t)
+same n (c ∷ t) reader held count m e w h p = by-room (le? longest count) (same? c 10) (same n t)
   where
-    more : count < 523 → length (set held count c) ≡ 523
+    more : count < longest → length (set held count c) ≡ longest
     more a = length-set held count c ∙ w
 
-    by-room : (523 ≤ count) ⊎ (count < 523) → (c ≡ 10) ⊎ (c ≢ 10) → Follows n t → Same n (c ∷ t) reader held count m
+    by-room : (longest ≤ count) ⊎ (count < longest) → (c ≡ 10) ⊎ (c ≢ 10) → Follows n t → Same n (c ∷ t) reader held count m
     by-room (inl a) d ih = same-long n t c reader held count m e w p a h
     by-room (inr a) (inl d) ih =
         same-line n t c reader held count m e w p a d (λ next m₁ e₁. ih next (set held count c) 0 m₁ e₁ (more a) (omega arith) tt)
@@ -267,5 +267,5 @@ unfolding textAnswer
 stream-reads-text ps m =
     let w = pieces-whole started ps m in
     let t = wholeOf ps in
-    let r = same (length m) t begun (replicate 523 0) 0 m refl (length-replicate {A = ℕ} 523 0) (omega arith) tt in
+    let r = same (length m) t begun (replicate longest 0) 0 m refl (length-replicate {A = ℕ} longest 0) (omega arith) tt in
     rw (w .0, w .1) (r .0, leaves-text (textAnswer t (length m)) t m (feedBuffer started t m) refl (r .1))

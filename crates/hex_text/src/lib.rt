@@ -5,7 +5,7 @@ ghost use lib.ListN.{length, take, drop};
 ghost use Rattle.base.specs.Outcome.{andThen};
 ghost use Rattle.hex_line.specs.Line.{begun, readLine};
 ghost use Rattle.hex_text.specs.Text.{lines, firstLength, textOutcome, endAnswer, linesAnswer, linesBuffer, textAnswer, textBuffer};
-ghost use Rattle.hex_text.specs.Stream.{streamOf, started, longNumber, feedStream, feedBuffer, toldNumber, finishAnswer};
+ghost use Rattle.hex_text.specs.Stream.{longest, streamOf, started, longNumber, feedStream, feedBuffer, toldNumber, finishAnswer};
 use hex_line::Line;
 use hex_line::Reader;
 
@@ -103,12 +103,12 @@ const LONGEST: usize = 523;
 // A file that is being read: the reader, the characters of the unfinished line, how many they are, and the number of the refusal, 0 while there is none.
 pub struct Stream {
     pub reader: Reader,
-    pub held: [u8; 523],
+    pub held: [u8; LONGEST],
     pub count: usize,
     pub number: u8,
 }
 
-fn make_stream(reader: Reader, held: [u8; 523], count: usize, number: u8) -> Stream
+fn make_stream(reader: Reader, held: [u8; LONGEST], count: usize, number: u8) -> Stream
     ensures { λ r. ⌜ r ≡ streamOf reader held count number ⌝ }
 {
     Stream {
@@ -123,7 +123,7 @@ fn make_stream(reader: Reader, held: [u8; 523], count: usize, number: u8) -> Str
 pub fn start() -> Stream
     ensures { λ r. ⌜ r ≡ started ⌝ }
 {
-    make_stream(hex_line::new_reader(), [0u8; 523], 0, 0)
+    make_stream(hex_line::new_reader(), [0u8; LONGEST], 0, 0)
 }
 
 // The number of a line that is longer than any valid one.
@@ -143,7 +143,7 @@ fn long_number(reader: Reader, length: usize) -> u8
 // Reads the characters of a piece while no line is refused.
 fn feed_open(
     start: Reader,
-    line: [u8; 523],
+    line: [u8; LONGEST],
     filled: usize,
     piece: &[u8],
     buffer: &mut [u8],
@@ -194,8 +194,8 @@ pub fn feed(s: Stream, piece: &[u8], buffer: &mut [u8]) -> Stream
 }
 
 // The answer to a file whose last line has no LF. It writes nothing.
-fn check_last(reader: Reader, held: [u8; 523], count: usize, length: usize) -> Text
-    requires { ⌜ count ≤ 523 ⌝ }
+fn check_last(reader: Reader, held: [u8; LONGEST], count: usize, length: usize) -> Text
+    requires { ⌜ count ≤ longest ⌝ }
     ensures { λ r. ⌜ textOutcome r ≡ andThen (readLine reader length (take count held)) endAnswer ⌝ }
 {
     match hex_line::check_line(&held[..count], length, reader) {

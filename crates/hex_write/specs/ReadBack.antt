@@ -9,7 +9,7 @@ use native.Mathlib.Omega.{arith}
 use lib.Dec.{eqb, ltb}
 use lib.ListN.{length, getD, take, drop, length-append, length-drop, List·getD-append, drop-of-length-le}
 use lib.Seq.{getD-append-add, getD-at, take-at, drop-at, drop-drop, take-suc, getD-drop, take-all, take-add, length-take-le}
-use borrow.Author.Tests.{eqb-true, ltb-true, ltb-false, ne-eqb, lt-ltb, le-ltb, le-leb}
+use borrow.Author.Tests.{eqb-true, eq-eqb, ltb-true, ltb-false, ne-eqb, lt-ltb, le-ltb, le-leb}
 use Rattle.base.specs.Choice.{pick}
 use Rattle.base.specs.ChoiceLaws.{pick-has}
 use Rattle.base.specs.Outcome.{Outcome, onOutcome}
@@ -331,6 +331,11 @@ ReadsBack (refused k) m out = Unit {0}
 pub reads-back : (m rest : List ℕ) → length m ≡ romLength → ((i : ℕ) → getD m i 0 < 256)
     → ReadsBack (value textLength) m (imageText m ++ rest)
 reads-back m rest s byte m₀ s₀ = rw (take-at (imageText m) rest textLength (length-imageText m)) (read-back m m₀ s s₀ byte)
+
+-- an image is written where its text has room
+pub written-whole : (size room : ℕ) → size ≡ romLength → textLength ≤ room → writeAnswer size room ≡ value textLength
+unfolding writeAnswer
+written-whole size room e h = rw (eq-eqb size romLength e, le-ltb room textLength h)
 
 -- what `write_image` answers and leaves in a buffer
 pub write-reads-back : (m out : List ℕ) → ((i : ℕ) → getD m i 0 < 256) → ReadsBack (writeAnswer (length m) (length out)) m (writeBuffer m out)

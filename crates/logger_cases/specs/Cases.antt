@@ -10,7 +10,7 @@ use Prim.Native.String as text
 use borrow.Author.Tests.{le-leb}
 use lib.Dec.{T, ltb, leb}
 use lib.ListN.{length, getD, replicate, set}
-use Rattle.base.specs.Addresses.{romAddr}
+use Rattle.base.specs.Addresses.{romAddr, spCell}
 use Rattle.base.specs.ChoiceLaws.{choose-other}
 use Rattle.base.specs.Formula.{decide}
 use Rattle.base.specs.Lengths.{romLength, recordLength}
@@ -41,7 +41,7 @@ callImage = replicate 0xA47 0xFF ++ (0xF6 ∷ 0x05 ∷ 0x21 ∷ replicate (romLe
 
 -- at an address, with SP
 unfoldable pub stateAt : ℕ → ℕ → State
-stateAt pc sp = movedTo resetState (set (replicate 256 0) 0xD9 sp) (romAddr pc) Running 0
+stateAt pc sp = movedTo resetState (set (replicate 256 0) spCell sp) (romAddr pc) Running 0
 
 -- a text's characters by their numbers
 abbrev pub ascii : String → List ℕ

@@ -25,6 +25,7 @@ use Rattle.semantics.specs.declared.Ran.{Ran}
 use Rattle.semantics.specs.Execute.{Executed}
 use Rattle.semantics.specs.Step.{Acted, entryDue, finishOf, entryCost, afterDecode, instructionAct, modeAct, actAfterRequests, requested, actedOf, settled, stepOf}
 use Rattle.semantics.specs.Run.{ran, recordAt, runFrom, runOf}
+use Rattle.semantics.specs.Refusals.{step-stops}
 
 -- the cycles of what was decoded, by its first byte; what does not decode costs nothing
 unfoldable pub decodedCost : Outcome (Instruction × ℕ) → ℕ → ℕ
@@ -54,6 +55,11 @@ costsOf zero image schedule i s = 0
 costsOf (suc k) image schedule i s =
     let r = stepOf image s (recordAt schedule i) in
     elim (eqb (r .stop) 0) [ true ↦ costOf image s (recordAt schedule i) + costsOf k image schedule (i + 1) (r .state) | false ↦ 0 ]
+
+-- the state behind the next k records from record i on, a step each
+unfoldable pub stateBehind : ℕ → List ℕ → List ℕ → ℕ → State → State
+stateBehind zero image schedule i s = s
+stateBehind (suc k) image schedule i s = stateBehind k image schedule (i + 1) (stepOf image s (recordAt schedule i) .state)
 
 -- how many steps a run completes, and what they cost: none where a length is wrong
 unfoldable pub completedSteps : List ℕ → State → List ℕ → ℕ
@@ -163,6 +169,37 @@ run-cycles (suc k) image schedule i s small = on (eqb (r .stop) 0) refl (run-cyc
         let b : r .state .cycles < 4294967296 = omega (arith, e) in
         rest b ∙ sums (s .cycles) cost _ (r .state .cycles) e
     on false h rest = ap (λ (x : State). x .cycles) (step-accounts s small image (recordAt schedule i) .refused (eqb-false (r .stop) 0 h)) ∙ same-total s small
+
+-- a run returns the state behind its completed steps, which is the state before the step that was refused
+run-from-state : (k : ℕ) (image schedule : List ℕ) (i : ℕ) (s : State)
+    → runFrom k image schedule i s .state ≡ stateBehind (completedOf k image schedule i s) image schedule i s
+unfolding runFrom completedOf stateBehind
+run-from-state zero image schedule i s = refl
+run-from-state (suc k) image schedule i s = on (eqb (r .stop) 0) refl (run-from-state k image schedule (i + 1) (r .state))
+  where
+    r : Stepped
+    r = stepOf image s (recordAt schedule i)
+
+    on : (b : Bool) → eqb (r .stop) 0 ≡ b
+        → runFrom k image schedule (i + 1) (r .state) .state
+        ≡ stateBehind (completedOf k image schedule (i + 1) (r .state)) image schedule (i + 1) (r .state)
+        → (elim b as (λ _. Ran) [ true ↦ runFrom k image schedule (i + 1) (r .state) | false ↦ ran (r .state) i (r .stop) ]) .state
+        ≡ stateBehind (elim b as (λ _. ℕ) [ true ↦ suc (completedOf k image schedule (i + 1) (r .state)) | false ↦ 0 ]) image schedule i s
+    on true h rest = rest
+    on false h rest = step-stops s image (recordAt schedule i) .unchanged (eqb-false (r .stop) 0 h)
+
+pub run-state : (image schedule : List ℕ) (s : State)
+    → runOf image s schedule .state ≡ stateBehind (completedSteps image s schedule) image schedule 0 s
+unfolding runOf completedSteps stateBehind
+run-state image schedule s = on (isImageLength (length image) && eqb (length schedule % recordLength) 0)
+  where
+    n : ℕ
+    n = length schedule / recordLength
+
+    on : (b : Bool)
+        → (pick b (runFrom n image schedule 0 s) (ran s 0 7)) .state ≡ stateBehind (pick b (completedOf n image schedule 0 s) 0) image schedule 0 s
+    on true = run-from-state n image schedule 0 s
+    on false = refl
 
 -- a run answers the number of its completed steps, and the start's cycle total with their costs
 pub record Counted (count cost : ℕ) (s : State) (r : Ran) : Type 0 where

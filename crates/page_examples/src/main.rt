@@ -3,9 +3,12 @@
 // example does not name has to stay as it was: all 256 registers, program counter, mode, cycle total and refusal are compared. What a page
 // leaves open (RAM, FLAGS, SP) is tried as all zeros and as all ones.
 ghost use Prim.Native.Nat.{_<_};
+use base::FLAGS_INDEX;
 use base::IMAGE_LENGTH;
 use base::RECORD_LENGTH;
 use base::RomAddr;
+use base::SP;
+use base::SP_INDEX;
 use base::byte_at;
 use semantics::Mode;
 use semantics::Ran;
@@ -158,7 +161,7 @@ fn short_key(text: &[u8], at: usize) -> Key {
         return Key::Counter;
     }
     if (first == b'S') & (second == b'P') {
-        return Key::Register(0xD9);
+        return Key::Register(SP);
     }
     if is_pair(text, at, plus(at, 2)) {
         return Key::Register(pair(text, at));
@@ -194,10 +197,10 @@ fn key_of(text: &[u8], at: usize, end: usize) -> Key {
 // FLAGS with one flag set or cleared.
 fn put_flag(regs: &mut [u8; 256], mask: u8, on: bool) {
     if on {
-        regs[0xD5] = regs[0xD5] | mask;
+        regs[FLAGS_INDEX] = regs[FLAGS_INDEX] | mask;
         return;
     }
-    regs[0xD5] = regs[0xD5] & (255 - mask);
+    regs[FLAGS_INDEX] = regs[FLAGS_INDEX] & (255 - mask);
 }
 
 // The mode by its first letter: running, idle, stopped.
@@ -336,8 +339,8 @@ fn open_registers(open: u8) -> [u8; 256] {
         regs[i] = open;
         i += 1;
     }
-    regs[0xD5] = open & 0xF0;
-    regs[0xD9] = open;
+    regs[FLAGS_INDEX] = open & 0xF0;
+    regs[SP_INDEX] = open;
     regs
 }
 

@@ -79,16 +79,16 @@ rows-length C (suc n) =
     omega (arith, length-append (rowsText C n) (routineText C (suc n)), rows-length C n, routine-length C (suc n))
 
 -- the longest text has room
-accepted-length : (C : Certificate) → length (acceptedText C) ≤ 1143
+accepted-length : (C : Certificate) → length (acceptedText C) ≤ longestReport
 unfolding acceptedText
 accepted-length C = omega (arith, length-append acceptedWord (rowsText C 63), rows-length C 63)
 
-refused-length : (number address : ℕ) → length (refusedText number address) ≤ 1143
+refused-length : (number address : ℕ) → length (refusedText number address) ≤ longestReport
 unfolding refusedText
 refused-length number address =
     omega (arith, length-append (numberText 3 number space) (addressText address lineEnd), number-length 3 number space)
 
-pub report-length : (verdict : Verdict) (C : Certificate) → length (reportText verdict C) ≤ 1143
+pub report-length : (verdict : Verdict) (C : Certificate) → length (reportText verdict C) ≤ longestReport
 report-length Accepted C = accepted-length C
 report-length (Refused number address) C = refused-length number (address .0)
 

@@ -5,14 +5,14 @@ ghost use mathlib.Core.List.{[], _∷_};
 ghost use lib.ListN.{length};
 ghost use Rattle.certificate.specs.Layout.{certificateOf};
 ghost use Rattle.hex_write.specs.ImageText.{writtenOutcome};
-ghost use Rattle.report.specs.Report.{decimal, numberText, addressText, rowText, routineText, acceptedText, refusedText, reportAnswer, reportBuffer};
+ghost use Rattle.report.specs.Report.{decimal, numberText, addressText, rowText, routineText, acceptedText, refusedText, longestReport, reportAnswer, reportBuffer};
 ghost use Rattle.report.specs.Stored.{Stored};
 use base::RomAddr;
 use certificate::Verdict;
 use hex_write::Written;
 
-// `accepted` and its LF, and 63 rows of at most 18 bytes.
-const LONGEST: usize = 1143;
+// The longest text: `accepted` and its LF, and 63 rows of at most 18 bytes.
+pub const REPORT_LENGTH: usize = 1143;
 
 // Each of the writers below stores its text from a position on and answers the position behind it.
 
@@ -99,7 +99,7 @@ fn write_routine(out: &mut [u8], at: usize, n: u8, cert: &[u8]) -> usize
 
 // `accepted`, and a row for each used routine.
 fn write_accepted(out: &mut [u8], cert: &[u8]) -> usize
-    requires { ⌜ 1143 ≤ length (now out) ⌝ }
+    requires { ⌜ longestReport ≤ length (now out) ⌝ }
     ensures { λ r. ⌜ Stored (acceptedText (certificateOf (now (cert .entry)))) 0 r (now (out .entry)) (now (out .exit)) ⌝ }
 {
     let mut at = write_word(out, 0, b"accepted\n");
@@ -113,7 +113,7 @@ fn write_accepted(out: &mut [u8], cert: &[u8]) -> usize
 
 // `refused`, number and address.
 fn write_refused(out: &mut [u8], number: u8, address: RomAddr) -> usize
-    requires { ⌜ 1143 ≤ length (now out) ⌝ }
+    requires { ⌜ longestReport ≤ length (now out) ⌝ }
     ensures { λ r. ⌜ Stored (refusedText number (address .0)) 0 r (now (out .entry)) (now (out .exit)) ⌝ }
 {
     let a = write_word(out, 0, b"refused ");
@@ -129,7 +129,7 @@ pub fn write_report(verdict: Verdict, cert: &[u8], out: &mut [u8]) -> Written
     if !base::is_certificate_length(cert.len()) {
         return Written::WrongLength;
     }
-    if out.len() < LONGEST {
+    if out.len() < REPORT_LENGTH {
         return Written::WrongLength;
     }
     match verdict {

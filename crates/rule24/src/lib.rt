@@ -44,9 +44,10 @@ fn one_table(cert: &[u8], n: u8, from: RegAddr, upto: RegAddr, writing: bool) ->
 fn reach(cert: &[u8], a: RomAddr, p: RegAddr, o: u8, writing: bool) -> bool
     ensures { λ r. ⌜ r ≡ decide (reachOf (certificateOf (now (cert .entry))) (a .0) (p .0) o writing) ⌝ }
 {
-    let from = claims::low(cert, a, p) as u16 + o as u16;
-    let upto = claims::high(cert, a, p) as u16 + o as u16;
-    if !claims::claimed(cert, a, p) {
+    let e = entries::entry_of(entries::entry_part(cert, a));
+    let from = claims::low_in(e, p) as u16 + o as u16;
+    let upto = claims::high_in(e, p) as u16 + o as u16;
+    if !claims::claimed_in(e, p) {
         return false;
     }
     if 255 < upto {
@@ -55,7 +56,6 @@ fn reach(cert: &[u8], a: RomAddr, p: RegAddr, o: u8, writing: bool) -> bool
     if 255 < from {
         return false;
     }
-    let e = entries::entry_of(entries::entry_part(cert, a));
     one_table(
         cert,
         e.routine,
@@ -90,10 +90,11 @@ fn pointed_write(cert: &[u8], a: RomAddr, w: Write) -> bool
 fn pair_in_rom(cert: &[u8], a: RomAddr, p: RegAddr, up: u16, down: u16) -> bool
     ensures { λ r. ⌜ r ≡ decide (codeInRom (certificateOf (now (cert .entry))) (a .0) (CodeAccess.Pair p up down)) ⌝ }
 {
-    let low = claims::low(cert, a, p) as u32 * 256 + up as u32;
-    let high = claims::high(cert, a, p) as u32 * 256 + 255 + up as u32;
+    let e = entries::entry_of(entries::entry_part(cert, a));
+    let low = claims::low_in(e, p) as u32 * 256 + up as u32;
+    let high = claims::high_in(e, p) as u32 * 256 + 255 + up as u32;
     let inside = (down as u32 <= low) & (high < base::ROM_END as u32 + down as u32);
-    claims::claimed(cert, a, p) & inside
+    claims::claimed_in(e, p) & inside
 }
 
 fn code_in_rom(cert: &[u8], a: RomAddr, c: CodeAccess) -> bool

@@ -14,6 +14,7 @@ use Rattle.base.specs.Formula.{Holds, eq, _&_, same?, le?, of-true, eqb-yes}
 use Rattle.base.specs.Lengths.{romLength}
 use Rattle.chip.specs.Registers.{storeOf}
 use Rattle.chip.specs.Laws.{mapped-ram, load-ram, store-other, store-ram}
+use Rattle.chip.specs.InterruptLaws.{enabled-same}
 use Rattle.alu.specs.Laws.{condition-always}
 use Rattle.action.specs.declared.Action.{Action}
 use Rattle.semantics.specs.Operands.{lowered, raised, storeTop, pushOf, pushAddress, wordAt, wordMapped}
@@ -29,7 +30,7 @@ use Rattle.safety.specs.Rules.{callDepth, claimsFollow, survives, call26
 use Rattle.safety.specs.Statement.{Opener, byReset, byCall, byInterrupt, Frame, spends, outward}
 use Rattle.safety.specs.Invariant.{at, Registers, Awake, Claims, firstNow, boundNow, reserve, CallLink, Link, frameSize, Chain, Invariant}
 use Rattle.safety.specs.Facts.{Global, EntryFacts}
-use Rattle.safety.specs.Memory.{store-registers, sp-registers, sp-other, sp-same, enabled-same}
+use Rattle.safety.specs.Memory.{store-registers, sp-registers, sp-other, sp-same}
 use Rattle.safety.specs.Chain.{Keeps, chain-room, chain-top, chain-cost, chain-keep}
 use Rattle.safety.specs.Edge.{CertificateFacts, taken, in-range, first-in, now-worst, paid-now, claims-follow, compare-follows}
 use Rattle.safety.specs.Plain.{RulesOf, entry-of, before-of, chain-step}

@@ -85,6 +85,9 @@ module _ (C : Certificate) (image : List ℕ) where
 
 -- The verdict --
 
+same-refusal : {n m : ℕ} {a b : RomAddr} → n ≡ m → a .0 ≡ b .0 → Refused n a ≡ Refused m b
+same-refusal {n} {m} {a} {b} e d = ap (λ (k : ℕ). Refused k a) e ∙ ap (λ (j : ℕ). Refused m (romAddr j)) d
+
 module _ (image cert : List ℕ) where
   abbrev C : Certificate
   C = certificateOf cert
@@ -136,9 +139,6 @@ module _ (image cert : List ℕ) where
         λ b l k r. absurd (omega arith),
       )
 
-  same-refusal : {n m : ℕ} {a b : RomAddr} → n ≡ m → a .0 ≡ b .0 → Refused n a ≡ Refused m b
-  same-refusal {n} {m} {a} {b} e d = ap (λ (k : ℕ). Refused k a) e ∙ ap (λ (j : ℕ). Refused m (romAddr j)) d
-
   -- two verdicts that report what is so are one
   pub reports-once : (v w : Verdict) → Reports image cert v → Reports image cert w → v ≡ w
   reports-once Accepted Accepted t u = refl
@@ -162,9 +162,16 @@ module _ (image cert : List ℕ) where
   pub exact : Exact image cert (verdictOf image cert)
   exact = record { reports = verdict-reports; only = λ w t. reports-once w (verdictOf image cert) t verdict-reports }
 
-  -- no rule broken: accepted
+  -- accepted exactly when no rule is broken
+  pub accepted-only-when : verdictOf image cert ≡ Accepted → (n a : ℕ) → Broken image cert n a → ⊥
+  accepted-only-when e = rw e at verdict-reports
+
   pub accepted-when : ((n a : ℕ) → Broken image cert n a → ⊥) → verdictOf image cert ≡ Accepted
   accepted-when h = reports-once (verdictOf image cert) Accepted verdict-reports h
+
+  -- refused by n at a exactly when that is the first broken rule
+  pub refused-only-when : (n : ℕ) (a : RomAddr) → verdictOf image cert ≡ Refused n a → Reports image cert (Refused n a)
+  refused-only-when n a e = rw e at verdict-reports
 
   pub refused-when : (n : ℕ) (a : RomAddr) → Reports image cert (Refused n a) → verdictOf image cert ≡ Refused n a
   refused-when n a h = reports-once (verdictOf image cert) (Refused n a) verdict-reports h
@@ -193,4 +200,4 @@ pub verdict-number : (image cert : List ℕ) (n : ℕ) (a : RomAddr) → verdict
 verdict-number image cert n a e =
     ⊎-elim (λ h. one-of CheckNumber (rulesOnWhole image cert) (inl refl, (inr (omega arith, omega arith), tt)) n (h .1))
     (λ h. one-of CheckNumber (rulesAt (certificateOf cert) image (a .0)) (rule-numbers (certificateOf cert) image (a .0)) n (h .2))
-    ((rw e at (verdict-reports image cert)) .0)
+    (refused-only-when image cert n a e .0)

@@ -84,7 +84,7 @@ module _ (C : Certificate) (image : List ℕ) (ok : Accepts C image) (facts : Ce
       (rules : RulesOf C a (summaryOf act) (next .0) c) (v : Invariant C ld r a (o .inner) (o .outer)) where
     step-rules : StepRules C a (summaryOf act)
     unfolding rule25
-    step-rules = record { r23 = rules .r23; r24 = rules .r24; stack = rules .r25 .0; enable = rules .r25 .1 .0 }
+    step-rules = record { r23 = rules .r23; r24 = rules .r24; stack = rules .r25 .0 }
 
     -- an instruction that stays in its routine
     right-step : (n : ℕ) (to : RomAddr) → summaryOf act .flow ≡ Step n to → Right C image ld a act r rec next c o (executeOf act image r rec next)

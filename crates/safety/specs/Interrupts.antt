@@ -45,6 +45,52 @@ flags-pushed r r′ g e = let z = g .flags in omega arith
 abbrev pub serviceFrame : ℕ → Frame
 serviceFrame pc = record { routine = 2; returnTo = pc; cycles = entryCost; opener = byInterrupt }
 
+-- the registers after IRET: FLAGS from @SP, SP three higher, interrupts enabled
+record Resumed (r r′ : List ℕ) : Type 0 where
+  pub registers : Registers r′
+  pub cells : (x : ℕ) → x < ramEnd → at r′ x ≡ at r x
+  pub pointer : at r′ spCell ≡ at r spCell + 3
+  pub flags : at r′ flagsCell ≡ at r (at r spCell)
+
+resumed : (r rec : List ℕ) → Registers r → at r spCell + 3 ≤ 0xC0 → at r (at r spCell) % 16 ≡ 0
+    → Resumed r (interruptReturnOf r rec .regs) × (interruptReturnOf r rec .next .stop ≡ 0)
+    × (interruptReturnOf r rec .next .pc .0 ≡ at r (at r spCell + 1) * 256 + at r (at r spCell + 2))
+unfolding interruptReturnOf returnOf raised
+resumed r rec g hs hw =
+    let s = at r spCell in
+    let w = loadOf r rec s in
+    let ew : w ≡ at r s = load-ram r rec s (omega arith) in
+    let hb : w < 256 = let z = g .bytes s in omega arith in
+    let hn : w % 16 ≡ 0 = rw ew hw in
+    let r1 = storeOf r flagsCell w in
+    let g1 : Registers r1 = flags-stored-registers r w g hb hn in
+    let c1 : (x : ℕ) → x ≢ flagsCell → at r1 x ≡ at r x = λ x n. store-other r flagsCell w x n in
+    let s1 : at r1 spCell ≡ s = c1 spCell (omega arith) in
+    let r2 = raised r1 1 in
+    let g2 : Registers r2 = sp-registers r1 ((at r1 spCell + 1) % 256) g1 (omega arith) in
+    let s2 : at r2 spCell ≡ s + 1 = sp-same r1 ((at r1 spCell + 1) % 256) g1 ∙ omega arith in
+    let r3 = raised r2 2 in
+    let g3 : Registers r3 = sp-registers r2 ((at r2 spCell + 2) % 256) g2 (omega arith) in
+    let s3 : at r3 spCell ≡ s + 3 = sp-same r2 ((at r2 spCell + 2) % 256) g2 ∙ omega arith in
+    let r4 = setInterruptsOf r3 true in
+    let c2 : (x : ℕ) → x ≢ flagsCell → x ≢ spCell → at r2 x ≡ at r x = λ x n m. sp-other r1 ((at r1 spCell + 1) % 256) x m ∙ c1 x n in
+    let c4 : (x : ℕ) → x ≢ symCell → at r4 x ≡ at r3 x = λ x n. set-interrupts-other r3 true x n in
+    let word = word-ram r2 rec (at r2 spCell) (omega arith) in
+    let high : at r2 (at r2 spCell) ≡ at r (s + 1) = ap (at r2) s2 ∙ c2 (s + 1) (omega arith) (omega arith) in
+    let low : at r2 (at r2 spCell + 1) ≡ at r (s + 2)
+    = ap (at r2) (let z : at r2 spCell + 1 ≡ s + 2 = omega arith in z) ∙ c2 (s + 2) (omega arith) (omega arith) in (
+      record {
+        registers = interrupts-registers r3 true g3;
+        cells = λ x h. c4 x (omega arith) ∙ sp-other r2 ((at r2 spCell + 2) % 256) x (omega arith) ∙ c2 x (omega arith) (omega arith);
+        pointer = c4 spCell (omega arith) ∙ s3;
+        flags =
+            c4 flagsCell (omega arith) ∙ sp-other r2 ((at r2 spCell + 2) % 256) flagsCell (omega arith)
+            ∙ sp-other r1 ((at r1 spCell + 1) % 256) flagsCell (omega arith) ∙ flags-stored r w g hb hn ∙ ew;
+      },
+      rw (mapped-ram s (omega arith), word .1) refl,
+      word .0 ∙ omega arith,
+    )
+
 module _ (C : Certificate) (image : List ℕ) (global : Global C image) (more : CertificateFacts C) where
   -- Entry --
 
@@ -212,52 +258,6 @@ module _ (C : Certificate) (image : List ℕ) (global : Global C image) (more : 
       }
 
   -- IRET --
-
-  -- the registers after IRET: FLAGS from @SP, SP three higher, interrupts enabled
-  record Resumed (r r′ : List ℕ) : Type 0 where
-    pub registers : Registers r′
-    pub cells : (x : ℕ) → x < ramEnd → at r′ x ≡ at r x
-    pub pointer : at r′ spCell ≡ at r spCell + 3
-    pub flags : at r′ flagsCell ≡ at r (at r spCell)
-
-  resumed : (r rec : List ℕ) → Registers r → at r spCell + 3 ≤ 0xC0 → at r (at r spCell) % 16 ≡ 0
-      → Resumed r (interruptReturnOf r rec .regs) × (interruptReturnOf r rec .next .stop ≡ 0)
-      × (interruptReturnOf r rec .next .pc .0 ≡ at r (at r spCell + 1) * 256 + at r (at r spCell + 2))
-  unfolding interruptReturnOf returnOf raised
-  resumed r rec g hs hw =
-      let s = at r spCell in
-      let w = loadOf r rec s in
-      let ew : w ≡ at r s = load-ram r rec s (omega arith) in
-      let hb : w < 256 = let z = g .bytes s in omega arith in
-      let hn : w % 16 ≡ 0 = rw ew hw in
-      let r1 = storeOf r flagsCell w in
-      let g1 : Registers r1 = flags-stored-registers r w g hb hn in
-      let c1 : (x : ℕ) → x ≢ flagsCell → at r1 x ≡ at r x = λ x n. store-other r flagsCell w x n in
-      let s1 : at r1 spCell ≡ s = c1 spCell (omega arith) in
-      let r2 = raised r1 1 in
-      let g2 : Registers r2 = sp-registers r1 ((at r1 spCell + 1) % 256) g1 (omega arith) in
-      let s2 : at r2 spCell ≡ s + 1 = sp-same r1 ((at r1 spCell + 1) % 256) g1 ∙ omega arith in
-      let r3 = raised r2 2 in
-      let g3 : Registers r3 = sp-registers r2 ((at r2 spCell + 2) % 256) g2 (omega arith) in
-      let s3 : at r3 spCell ≡ s + 3 = sp-same r2 ((at r2 spCell + 2) % 256) g2 ∙ omega arith in
-      let r4 = setInterruptsOf r3 true in
-      let c2 : (x : ℕ) → x ≢ flagsCell → x ≢ spCell → at r2 x ≡ at r x = λ x n m. sp-other r1 ((at r1 spCell + 1) % 256) x m ∙ c1 x n in
-      let c4 : (x : ℕ) → x ≢ symCell → at r4 x ≡ at r3 x = λ x n. set-interrupts-other r3 true x n in
-      let word = word-ram r2 rec (at r2 spCell) (omega arith) in
-      let high : at r2 (at r2 spCell) ≡ at r (s + 1) = ap (at r2) s2 ∙ c2 (s + 1) (omega arith) (omega arith) in
-      let low : at r2 (at r2 spCell + 1) ≡ at r (s + 2)
-      = ap (at r2) (let z : at r2 spCell + 1 ≡ s + 2 = omega arith in z) ∙ c2 (s + 2) (omega arith) (omega arith) in (
-        record {
-          registers = interrupts-registers r3 true g3;
-          cells = λ x h. c4 x (omega arith) ∙ sp-other r2 ((at r2 spCell + 2) % 256) x (omega arith) ∙ c2 x (omega arith) (omega arith);
-          pointer = c4 spCell (omega arith) ∙ s3;
-          flags =
-              c4 flagsCell (omega arith) ∙ sp-other r2 ((at r2 spCell + 2) % 256) flagsCell (omega arith)
-              ∙ sp-other r1 ((at r1 spCell + 1) % 256) flagsCell (omega arith) ∙ flags-stored r w g hb hn ∙ ew;
-        },
-        rw (mapped-ram s (omega arith), word .1) refl,
-        word .0 ∙ omega arith,
-      )
 
   return-interrupted : (r rec : List ℕ) (a c : ℕ) (next : RomAddr) (f g : Frame) (rest : List Frame) → Invariant C true r a f (g ∷ rest)
       → C .routine a ≡ 2 → C .depth a ≡ 0 → Holds (paid C a (plainEdge 0) c (λ v. 0)) → f .opener ≡ byInterrupt

@@ -1,21 +1,21 @@
 -- The registers after the machine's stores: what they hold, and what they leave alone.
 -- Assumes nothing.
-use mathlib.Core.Path.{_≡_, refl, sym, _∙_, ap}
+use mathlib.Core.Path.{_≡_, refl, sym, _∙_}
 use mathlib.Core.Logic.{_≢_, _⊎_, inl, inr, ⊎-elim}
 use mathlib.Core.Bool.{Bool, true, false, _||_, _&&_}
 use mathlib.Core.List.{List, [], _∷_, map}
-use Prim.Native.Nat.{ℕ, _/_, _%_, _<_}
+use Prim.Native.Nat.{ℕ, _%_, _<_}
 use native.Mathlib.Omega.{arith}
 use lib.Dec.{T, eqb, ltb, eqb→eq, ltb→lt}
 use lib.Bits.{bitAnd}
 use lib.ListN.{getD, set, length-set}
 use lib.Seq.{getD-set-same, getD-set-other}
-use Rattle.base.specs.Addresses.{flagsCell, spCell, symCell}
+use Rattle.base.specs.Addresses.{flagsCell, spCell}
 use Rattle.base.specs.Formula.{of-true, sound, test, eq, _&_, _⇒_, forallBelow}
 use Rattle.base.specs.Cells.{set-cells}
 use Rattle.chip.specs.Registers.{mappedOf, keptBits, keptOf, writtenOf, loadOf, storeOf, among, keptRows, readOnly, testRegister}
 use Rattle.chip.specs.Laws.{load-byte, store-length, store-other, store-same, store-bytes}
-use Rattle.chip.specs.Interrupts.{interruptsEnabled, setInterruptsOf}
+use Rattle.chip.specs.Interrupts.{setInterruptsOf}
 use Rattle.chip.specs.InterruptLaws.{set-interrupts-length, set-interrupts-other, set-interrupts-bytes}
 use Rattle.alu.specs.declared.FlagUpdate.{FlagUpdate}
 use Rattle.alu.specs.declared.FlagUpdate.the-variants.{Unchanged, Carry, Result, CarryResult}
@@ -115,11 +115,6 @@ flags-registers r u g = record {
   bytes = set-cells (λ (k x : ℕ). x < 256) r flagsCell (update (at r flagsCell) u) (g .bytes) (update-bound (at r flagsCell) u (g .bytes flagsCell));
   flags = rw (flags-same r u g) (flags-low (at r flagsCell) u (g .flags));
 }
-
--- the interrupt enable
-pub enabled-same : (r r′ : List ℕ) → at r′ symCell ≡ at r symCell → interruptsEnabled r′ ≡ interruptsEnabled r
-unfolding interruptsEnabled
-enabled-same r r′ e = ap (λ (n : ℕ). eqb (n / 4 % 2) 1) e
 
 pub interrupts-registers : (r : List ℕ) (on : Bool) → Registers r → Registers (setInterruptsOf r on)
 interrupts-registers r on g = record {

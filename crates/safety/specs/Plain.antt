@@ -8,11 +8,11 @@ use Prim.Native.Nat.{ℕ, _+_, _≤_, _<_}
 use native.Mathlib.Omega.{arith}
 use lib.Dec.{T}
 use Rattle.base.specs.declared.RomAddr.{RomAddr}
-use Rattle.base.specs.Addresses.{flagsCell, spCell, symCell}
+use Rattle.base.specs.Addresses.{flagsCell, spCell}
 use Rattle.base.specs.Choice.{pick}
 use Rattle.base.specs.Formula.{Formula, Holds, eqb-yes}
 use Rattle.chip.specs.Interrupts.{interruptsEnabled, postOf}
-use Rattle.chip.specs.InterruptLaws.{post-length, post-other, post-bytes}
+use Rattle.chip.specs.InterruptLaws.{post-length, post-other, post-bytes, post-enabled}
 use Rattle.alu.specs.Flags.{condition}
 use Rattle.alu.specs.Operations.{compareFlags}
 use Rattle.alu.specs.Laws.{condition-never, condition-always}
@@ -31,7 +31,6 @@ use Rattle.safety.specs.Statement.{Frame, spends, outward}
 use Rattle.safety.specs.Invariant.{at, Registers, Claims, firstNow, reserve, Chain, Stack, Invariant, Refines, Before, spAfter, enabledAfter}
 use Rattle.safety.specs.Accepted.{RulesHold}
 use Rattle.safety.specs.Facts.{Global, EntryFacts}
-use Rattle.safety.specs.Memory.{enabled-same}
 use Rattle.safety.specs.Chain.{Keeps, chain-room, chain-top, chain-cost, chain-keep}
 use Rattle.safety.specs.Coherent.{Coherent, reads-copies}
 use Rattle.safety.specs.Transfers.{loadedAfter}
@@ -104,6 +103,31 @@ before-of C false r a f fs v =
     let l = v .stack .unloaded in
     record { registers = v .registers; claims = v .claims; lowest = λ d. absurd (omega arith); highest = λ d. absurd (omega arith) }
 
+-- RAM, FLAGS, SP and the interrupt enable as they were
+pub record Untouched (r r′ : List ℕ) : Type 0 where
+  pub registers : Registers r′
+  pub cells : (x : ℕ) → x < ramEnd → at r′ x ≡ at r x
+  pub flags : at r′ flagsCell ≡ at r flagsCell
+  pub pointer : at r′ spCell ≡ at r spCell
+  pub enabled : interruptsEnabled r′ ≡ interruptsEnabled r
+
+-- requests change only D2H, F3H, E8H and F7H
+post-untouched : (r : List ℕ) (b : ℕ) → Registers r → Untouched r (postOf r b)
+post-untouched r b g =
+    let other : (x : ℕ) → x ≢ 0xD2 → x ≢ 0xF3 → x ≢ 0xE8 → x ≢ 0xF7 → at (postOf r b) x ≡ at r x = post-other r b in
+    let flags : at (postOf r b) flagsCell ≡ at r flagsCell = other flagsCell (omega arith) (omega arith) (omega arith) (omega arith) in
+    record {
+      registers = record {
+        size = post-length r b ∙ g .size;
+        bytes = post-bytes r b (g .bytes);
+        flags = rw flags (g .flags);
+      };
+      cells = λ x h. other x (omega arith) (omega arith) (omega arith) (omega arith);
+      flags = flags;
+      pointer = other spCell (omega arith) (omega arith) (omega arith) (omega arith);
+      enabled = post-enabled r b;
+    }
+
 module _ (C : Certificate) (image : List ℕ) (global : Global C image) where
   pub entry-of : (ld : Bool) (r : List ℕ) (a : ℕ) (f : Frame) (fs : List Frame) → Invariant C ld r a f fs → EntryFacts C a
   entry-of ld r a f fs v = global .entry a (v .inRom) (v .used)
@@ -116,14 +140,6 @@ module _ (C : Certificate) (image : List ℕ) (global : Global C image) where
       chain-cost C c r′ _ f fs
       (chain-keep C image global (C .side (C .routine a)) (C .routine a) _ r r′ k (e .sideLow) (e .sideHigh) _ f fs (omega arith)
       (inl (ap (C .side) (sym h), omega arith)) ch)
-
-  -- RAM, FLAGS, SP and the interrupt enable as they were
-  pub record Untouched (r r′ : List ℕ) : Type 0 where
-    pub registers : Registers r′
-    pub cells : (x : ℕ) → x < ramEnd → at r′ x ≡ at r x
-    pub flags : at r′ flagsCell ≡ at r flagsCell
-    pub pointer : at r′ spCell ≡ at r spCell
-    pub enabled : interruptsEnabled r′ ≡ interruptsEnabled r
 
   stack-untouched : (ld : Bool) (r r′ : List ℕ) (a : ℕ) (f : Frame) (fs : List Frame) → EntryFacts C a → C .routine a ≡ f .routine
       → Untouched r r′ → Stack C ld r a f fs → Stack C ld r′ a f fs
@@ -154,23 +170,6 @@ module _ (C : Certificate) (image : List ℕ) (global : Global C image) where
         enabled = λ h. v .enabled (sym (u .enabled) ∙ h);
         cost = λ n. let z = v .cost n in let y = ap (boundAt C a) (first-kept C a r r′ e s) in omega arith;
         stack = stack-untouched ld r r′ a f fs e (v .home) u (v .stack);
-      }
-
-  -- requests change only D2H, F3H, E8H and F7H
-  post-untouched : (r : List ℕ) (b : ℕ) → Registers r → Untouched r (postOf r b)
-  post-untouched r b g =
-      let other : (x : ℕ) → x ≢ 0xD2 → x ≢ 0xF3 → x ≢ 0xE8 → x ≢ 0xF7 → at (postOf r b) x ≡ at r x = post-other r b in
-      let flags : at (postOf r b) flagsCell ≡ at r flagsCell = other flagsCell (omega arith) (omega arith) (omega arith) (omega arith) in
-      record {
-        registers = record {
-          size = post-length r b ∙ g .size;
-          bytes = post-bytes r b (g .bytes);
-          flags = rw flags (g .flags);
-        };
-        cells = λ x h. other x (omega arith) (omega arith) (omega arith) (omega arith);
-        flags = flags;
-        pointer = other spCell (omega arith) (omega arith) (omega arith) (omega arith);
-        enabled = enabled-same r (postOf r b) (other symCell (omega arith) (omega arith) (omega arith) (omega arith));
       }
 
   pub inv-request : (ld : Bool) (r : List ℕ) (b a : ℕ) (f : Frame) (fs : List Frame) → Invariant C ld r a f fs → Invariant C ld (postOf r b) a f fs

@@ -18,6 +18,7 @@ use Rattle.isa.specs.declared.Unary.{Unary}
 use Rattle.isa.specs.declared.Unary.the-variants.{Dec, Rlc, Inc, Com, Rl, Clr, Rrc, Sra, Rr}
 use Rattle.chip.specs.Registers.{mappedOf, keptBits, loadOf, storeOf}
 use Rattle.chip.specs.Laws.{load-ram, store-other, store-full}
+use Rattle.chip.specs.InterruptLaws.{enabled-same}
 use Rattle.alu.specs.Flags.{carry}
 use Rattle.alu.specs.Operations.{operate, modify, increment, decrement, stores}
 use Rattle.alu.specs.Laws.{update-unchanged, compare-leaves, operate-bound, modify-bound, and-source}
@@ -39,7 +40,7 @@ use Rattle.safety.specs.Rules.{rule23, rule24}
 use Rattle.safety.specs.Statement.{InTable}
 use Rattle.safety.specs.Invariant.{at, Registers, FlagsAfter, Refines, Before, readTable, writeTable, tableOf, Does, Small, Shaped}
 use Rattle.safety.specs.Facts.{Global, EntryFacts}
-use Rattle.safety.specs.Memory.{Input, load-small, store-registers, flags-same, enabled-same}
+use Rattle.safety.specs.Memory.{Input, load-small, store-registers, flags-same}
 use Rattle.safety.specs.StepRules.{StepRules}
 use Rattle.safety.specs.RefineOperands.{HasPlace, Allowed, anyPlace, writablePlace, Gives, Written, may-read, may-write, fetch-ram, fetch-byte, place-mapped, fetch-mapped}
 use Rattle.safety.specs.RefineOperands.{in-read-table, in-write-table, nothing-written, place-written, refines-beyond, refines-written, refines-flags, does-onward}
@@ -108,6 +109,12 @@ binary-gives r rec Tcm x s y c = λ l r′ q. tt
 binary-gives r rec Tm x s y c = λ l r′ q. tt
 binary-gives r rec Cp x s y c = λ l r′ q. tt
 binary-gives r rec Xor x s y c = λ l r′ q. tt
+
+-- b: the register is SP
+abbrev loadedNumber : RegAddr → ℕ → Bool → Summary
+loadedNumber x n b =
+    pick b (moving Write.Nothing Access.Nothing Access.Nothing Kept (Load n))
+    (moving (Write.Register x (Number n)) Access.Nothing Access.Nothing Kept Same)
 
 module _ (C : Certificate) (image : List ℕ) (gl : Global C image) (a : ℕ) (e : EntryFacts C a) (r rec : List ℕ) (pre : Before C a r) (input : Input rec) (next : RomAddr) where
   -- the carry before
@@ -220,12 +227,6 @@ module _ (C : Certificate) (image : List ℕ) (gl : Global C image) (a : ℕ) (e
       (refines-beyond C image gl a e _ r r (storeOf r (x .0) n) (nothing-written C a r g) (store-registers r (x .0) n g h (omega arith))
       (λ z l. other z (omega arith)) same (other flagsCell (omega arith)) (enabled-same r (storeOf r (x .0) n) (other symCell (omega arith))))
       (tt, tt)
-
-  -- b: the register is SP
-  abbrev loadedNumber : RegAddr → ℕ → Bool → Summary
-  loadedNumber x n b =
-      pick b (moving Write.Nothing Access.Nothing Access.Nothing Kept (Load n))
-      (moving (Write.Register x (Number n)) Access.Nothing Access.Nothing Kept Same)
 
   loads-number : (x : RegAddr) (n : ℕ) → n < 256 → (b : Bool) → eqb (x .0) spCell ≡ b → StepRules C a (loadedNumber x n b)
       → Does C image a (loadedNumber x n b) (Action.Load (Register x) (Immediate n)) r rec next 0 0

@@ -15,6 +15,7 @@ use Rattle.base.specs.Formula.{Formula, always, _&_, Holds, of-true, eqb-yes, l
 use Rattle.chip.specs.Registers.{mappedOf, loadOf, storeOf}
 use Rattle.chip.specs.Laws.{load-ram, mapped-ram, store-other, store-ram}
 use Rattle.chip.specs.Interrupts.{interruptsEnabled}
+use Rattle.chip.specs.InterruptLaws.{enabled-same}
 use Rattle.alu.specs.declared.FlagUpdate.{FlagUpdate}
 use Rattle.alu.specs.Laws.{condition-never}
 use Rattle.action.specs.declared.Operand.{Operand}
@@ -35,7 +36,7 @@ use Rattle.safety.specs.Rules.Change.{unchanged, changed}
 use Rattle.safety.specs.Statement.{InTable, PointersRight}
 use Rattle.safety.specs.Invariant.{at, Registers, Claims, Effect, FlagsAfter, spAfter, enabledAfter, Refines, readTable, writeTable, tableOf, Does, Small}
 use Rattle.safety.specs.Facts.{Global, EntryFacts, Writable, is-writable}
-use Rattle.safety.specs.Memory.{Input, load-small, store-registers, flags-registers, flags-other, enabled-same}
+use Rattle.safety.specs.Memory.{Input, load-small, store-registers, flags-registers, flags-other}
 
 -- an operand that has a place
 abbrev pub HasPlace : Operand → Type 0

@@ -12,6 +12,7 @@ use Rattle.base.specs.Addresses.{flagsCell, spCell, symCell}
 use Rattle.base.specs.Lengths.{romLength}
 use Rattle.chip.specs.Registers.{mappedOf, loadOf, storeOf}
 use Rattle.chip.specs.Laws.{mapped-ram, store-other}
+use Rattle.chip.specs.InterruptLaws.{enabled-same}
 use Rattle.action.specs.declared.Operand.{Operand}
 use Rattle.action.specs.declared.Operand.the-variants.{Register, Indirect, Immediate}
 use Rattle.action.specs.declared.Action.{Action}
@@ -27,7 +28,7 @@ use Rattle.safety.specs.Rules.{unloaded, rule23, rule24}
 use Rattle.certificate.specs.Summaries.{summaryOf, moving, writeTo}
 use Rattle.safety.specs.Invariant.{at, Registers, Claims, Before, Does, Shaped, tableOf}
 use Rattle.safety.specs.Facts.{Global, EntryFacts}
-use Rattle.safety.specs.Memory.{Input, load-small, store-registers, sp-registers, sp-other, sp-same, enabled-same}
+use Rattle.safety.specs.Memory.{Input, load-small, store-registers, sp-registers, sp-other, sp-same}
 use Rattle.safety.specs.RefineOperands.{HasPlace, Gives, Written, anyPlace, writablePlace, may-read, may-write, fetch-byte, fetch-mapped}
 use Rattle.safety.specs.RefineOperands.{place-mapped, place-written, in-read-table, in-write-table, refines-beyond, does-onward}
 use Rattle.safety.specs.StepRules.{StepRules}

@@ -18,6 +18,7 @@ use Rattle.isa.specs.Map.{cyclesOf}
 use Rattle.chip.specs.Interrupts.{interruptsEnabled, pendingAny, pendingEdge}
 use Rattle.chip.specs.Reset.{resetRegisters}
 use Rattle.chip.specs.ResetLaws.{reset-enabled}
+use Rattle.chip.specs.InterruptLaws.{enabled-same}
 use Rattle.decode.specs.Decode.{decodeAt}
 use Rattle.action.specs.Action.{actionOf}
 use Rattle.semantics.specs.declared.Mode.{Mode}
@@ -37,7 +38,7 @@ use Rattle.safety.specs.Statement.{actedState, afterStep, monitorStep, E
 use Rattle.safety.specs.Invariant.{at, Registers, Awake, Invariant, tableOf}
 use Rattle.safety.specs.Accepted.{Accepts}
 use Rattle.safety.specs.Facts.{Global, global}
-use Rattle.safety.specs.Memory.{Input, enabled-same}
+use Rattle.safety.specs.Memory.{Input}
 use Rattle.safety.specs.DecodedShape.{decoded-shaped}
 use Rattle.safety.specs.Edge.{CertificateFacts, in-range}
 use Rattle.safety.specs.Plain.{inv-request}
@@ -56,6 +57,15 @@ unfolding entryDue
 due-enabled r Running h = first-true (interruptsEnabled r) (pendingAny r) h
 due-enabled r Idle h = first-true (interruptsEnabled r) (pendingAny r) h
 due-enabled r Stopped h = first-true (interruptsEnabled r) (pendingEdge r) h
+
+-- what an instruction or an entry leaves where it does not stop
+abbrev finished : State → Executed → Bool → ℕ → Acted
+finished s e retired cost =
+    record { state = movedTo s (e .regs) (e .next .pc) (e .next .mode) cost; stop = 0; retired = retired; elapsed = cost }
+
+finish-is : (s : State) (e : Executed) (retired : Bool) (cost : ℕ) → e .next .stop ≡ 0 → finished s e retired cost ≡ finishOf s e retired cost
+unfolding finishOf
+finish-is s e retired cost h = rw (eqb-yes h)
 
 module _ (C : Certificate) (image : List ℕ) (ok : Accepts C image) (facts : CertificateFacts C) (size : length image ≡ romLength)
     (bytes : (i : ℕ) → getD image i 0 < 256) where
@@ -88,15 +98,6 @@ module _ (C : Certificate) (image : List ℕ) (ok : Accepts C image) (facts : Ce
   good-settled : (m : Monitored) (rec : List ℕ) (a : Acted) (e : Event) → Good m rec a e → Settles m a e (settled (m .state) a)
   unfolding settled
   good-settled m rec a e g = record { goes = g .goes; kept = g .kept }
-
-  -- what an instruction or an entry leaves where it does not stop
-  abbrev finished : State → Executed → Bool → ℕ → Acted
-  finished s e retired cost =
-      record { state = movedTo s (e .regs) (e .next .pc) (e .next .mode) cost; stop = 0; retired = retired; elapsed = cost }
-
-  finish-is : (s : State) (e : Executed) (retired : Bool) (cost : ℕ) → e .next .stop ≡ 0 → finished s e retired cost ≡ finishOf s e retired cost
-  unfolding finishOf
-  finish-is s e retired cost h = rw (eqb-yes h)
 
   loaded-stack : (b : Bool) (r : List ℕ) (pc : ℕ) (f : Frame) (fs : List Frame) → Invariant C b r pc f fs → b ≡ true
       → (C .floor ≤ at r spCell) × (at r spCell ≤ C .top)

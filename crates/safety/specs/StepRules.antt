@@ -4,10 +4,9 @@ use Prim.Native.Nat.{ℕ}
 use Rattle.base.specs.Formula.{Holds}
 use Rattle.certificate.specs.declared.Summary.{Summary}
 use Rattle.certificate.specs.Layout.{Certificate}
-use Rattle.safety.specs.Rules.{rule23, rule24, stackRule, enableRule}
+use Rattle.safety.specs.Rules.{rule23, rule24, stackRule}
 
 pub record StepRules (C : Certificate) (a : ℕ) (S : Summary) : Type 0 where
   pub r23 : Holds (rule23 C a S)
   pub r24 : Holds (rule24 C a S)
   pub stack : Holds (stackRule (C .depth a) (C .need (C .routine a)) (S .stack))
-  pub enable : Holds (enableRule (C .depth a) (S .control))

@@ -97,16 +97,16 @@ loadedAfter Push b = b
 loadedAfter Pop b = b
 loadedAfter (Load n) b = true
 
+binary-loads : (t : Bool) (op : Alu) (d s : Operand) (b : Bool) → b ≡ loadedAfter (binarySummary t op d s .stack) b
+binary-loads true op d s b = refl
+binary-loads false op d s b = refl
+
 module _ (C : Certificate) (a : ℕ) where
   number-loads : (x : RegAddr) (n : ℕ) (b : Bool) → Holds (rule23 C a (loadSummary (Register x) (Immediate n)))
       → (eqb (x .0) spCell && eqb n (C .top) || b) ≡ loadedAfter (loadSummary (Register x) (Immediate n) .stack) b
   unfolding rule23
   number-loads x n b h =
       ⊎-elim (λ q. let k = rw q at h in rw (q, eqb-yes (k .1 .1 .1 .1))) (λ q. rw q) (case-bool (eqb (x .0) spCell))
-
-  binary-loads : (t : Bool) (op : Alu) (d s : Operand) (b : Bool) → b ≡ loadedAfter (binarySummary t op d s .stack) b
-  binary-loads true op d s b = refl
-  binary-loads false op d s b = refl
 
   -- rule 23 lets SP be loaded with the top only
   pub loads-top : (act : Action) (b : Bool) → Holds (rule23 C a (summaryOf act)) → (loadsTop (C .top) act || b) ≡ loadedAfter (summaryOf act .stack) b

@@ -85,6 +85,12 @@ widened : {n : ℕ} → ActionNumber n → StepNumber n
 widened {n} (inl z) = inl z
 widened {n} (inr h) = inr (inr (omega (arith, h .0), omega (arith, h .1)))
 
+enter-ends : (image regs : List ℕ) (pc : RomAddr) → Ends (enterOf image regs pc .next)
+unfolding enterOf
+enter-ends image regs pc =
+    let a = pushAddress regs pc in
+    goes-on (a .ok && pushOf (a .regs) (flagsOf (a .regs)) .ok) pc
+
 module _ (s : State) where
   abbrev ActStops : Acted → Type 0
   ActStops a = Stops s (a .state) (a .stop)
@@ -94,12 +100,6 @@ module _ (s : State) where
   finish-stops e retired cost h =
       pick-has ActStops (eqb (e .next .stop) 0) _ _
       (λ _. record { number = inl refl; unchanged = λ ne. absurd (ne refl) }) (λ _. record { number = widened h; unchanged = λ _. refl })
-
-  enter-ends : (image regs : List ℕ) (pc : RomAddr) → Ends (enterOf image regs pc .next)
-  unfolding enterOf
-  enter-ends image regs pc =
-      let a = pushAddress regs pc in
-      goes-on (a .ok && pushOf (a .regs) (flagsOf (a .regs)) .ok) pc
 
   decode-stops : (o : Outcome (Instruction × ℕ)) (image regs rec : List ℕ) → decodeAt image (s .pc .0) ≡ o
       → ActStops (afterDecode o image s regs rec)

@@ -9,7 +9,7 @@ use lib.Seq.{length-take-le}
 use borrow.Author.Tests.{le-leb, lt-leb, eq-eqb, ne-eqb}
 use Rattle.hex_line.specs.Line.{lineOutcome}
 use Rattle.hex_line.specs.Refusals.{line-number}
-use Rattle.hex_text.specs.Stream.{streamOf, pushStream, pushBuffer}
+use Rattle.hex_text.specs.Stream.{longest, streamOf, pushStream, pushBuffer}
 use Rattle.hex_text.specs.StreamLaws.{FedUpTo, fed-one, fed-all, fed-refused}
 use Rattle.hex_text.specs.Refusals.{long-number}
 use borrow.Author.Needs.{needs}
@@ -21,7 +21,7 @@ Inv-loop filled piece buffer₀ reader₀ held₀ count₀ at₀ buffer reader h
     (at ≤ length piece)
     × FedUpTo (length buffer₀) (streamOf reader₀ held₀ count₀ 0) piece buffer₀ (streamOf reader held count 0) at buffer
     × (length buffer ≡ length buffer₀)
-    × (length held ≡ 523)
+    × (length held ≡ longest)
 
 abbrev μ-loop : tie.MeasureT-loop
 μ-loop filled piece buffer₀ reader₀ held₀ count₀ at₀ buffer reader held count at = length piece - at

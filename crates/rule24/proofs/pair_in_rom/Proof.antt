@@ -1,10 +1,18 @@
 -- The pair's claim with the offset, unwrapped, lies in ROM.
+use Rattle.certificate.specs.Layout.{certificateOf}
+use mathlib.Core.Path.{_∙_}
 use borrow.Author.Needs.{needs}
 use Rattle.rule24.proofs.pair_in_rom.Statement.{statement}
 use Rattle.rule24.proofs.pair_in_rom.Tie as tie
 
-low-requires : tie.Need-low-requires
-low-requires c κs = search needs
+entry-part-requires : tie.Need-entry-part-requires
+entry-part-requires c κs = search needs
+
+entry-of-requires : tie.Need-entry-of-requires
+entry-of-requires c κs = search needs
+
+low-in-requires : tie.Need-low-in-requires
+low-in-requires c κs = search needs
 
 cast-low : tie.Need-cast-low
 cast-low c = search needs
@@ -15,8 +23,8 @@ mul-low c = search needs
 add-low : tie.Need-add-low
 add-low c = search needs
 
-high-requires : tie.Need-high-requires
-high-requires c κs = search needs
+high-in-requires : tie.Need-high-in-requires
+high-in-requires c κs = search needs
 
 cast-high : tie.Need-cast-high
 cast-high c = search needs
@@ -36,26 +44,34 @@ cast-inside c = search needs
 add-inside : tie.Need-add-inside
 add-inside c = search needs
 
-claimed-requires : tie.Need-claimed-requires
-claimed-requires c κs = search needs
+claimed-in-requires : tie.Need-claimed-in-requires
+claimed-in-requires c κs = search needs
 
 returns : tie.Need-returns
-returns c = simp (c .claimed .ensures, c .before .high .ensures, c .before .before .low .ensures)
+returns c =
+    let s = c .before .before .before in
+    let g = s .before .before .before .args in
+    let C = certificateOf (g .cert .now) in
+    let a = g .a .0 in
+    let q = s .entry-of .ensures ∙ s .before .entry-part .ensures .1 in
+    simp (c .claimed-in .ensures C a q, c .before .high-in .ensures C a q, c .before .before .low-in .ensures C a q)
 
 pub pair-in-rom-spec : {M : Type 1} → statement M
 pair-in-rom-spec =
     tie.close
     (tie.spec
-    low-requires
+    entry-part-requires
+    entry-of-requires
+    low-in-requires
     cast-low
     mul-low
     add-low
-    high-requires
+    high-in-requires
     cast-high
     mul-high
     add-high
     add-high-2
     cast-inside
     add-inside
-    claimed-requires
+    claimed-in-requires
     returns)
