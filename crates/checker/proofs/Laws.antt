@@ -22,7 +22,7 @@ use Rattle.safety.specs.Accepted.{never-refused}
 use Rattle.safety.specs.Exact.{exact}
 use Rattle.safety.specs.Theorem.{demand3}
 use Rattle.checker.specs.declared.Holding.{Holding}
-use Rattle.checker.specs.Located.{tested}
+use Rattle.checker.specs.Tested.{tested}
 
 turn : (a : ℕ) → a < romLength → romLength - a ≡ suc (romLength - (a + 1))
 turn a h = omega arith

@@ -1,1 +1,1 @@
-pub mod Located
+pub mod Tested

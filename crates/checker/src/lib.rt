@@ -1,62 +1,14 @@
 // The certificate checker.
 ghost use mathlib.Core.Path.{_≡_};
 ghost use Rattle.base.specs.Lengths.{romLength};
-ghost use Rattle.base.specs.Outcome.Outcome.{value, refused};
 ghost use Rattle.certificate.specs.Layout.{certificateOf};
-ghost use Rattle.safety.specs.Verdicts.{costAt, rulesOn, rulesAt, firstBroken, numberAt, scan, verdictOf, Exact};
-ghost use Rattle.checker.specs.Located.{locatedIn, locatedAt, tested, numberUnless};
+ghost use Rattle.safety.specs.Verdicts.{rulesOn, rulesAt, firstBroken, numberAt, scan, verdictOf, Exact};
+ghost use Rattle.checker.specs.Tested.{tested, numberUnless};
 ghost use Rattle.certificate.specs.declared.Verdict.the-variants.{Accepted};
 ghost use Rattle.safety.specs.Statement.{Demand3};
 use base::RomAddr;
 use certificate::Summary;
 use certificate::Verdict;
-use isa::Decoded;
-use isa::Instruction;
-
-// The instruction at an address: its summary, and the address behind it.
-pub struct Located {
-    pub summary: Summary,
-    pub next: RomAddr,
-}
-
-// What no accepted program has, one byte long.
-fn no_instruction(a: RomAddr) -> Located
-    ensures { λ r. ⌜ r ≡ locatedIn (refused 0) (a .0) ⌝ }
-{
-    let s = summary::forbidden();
-    Located {
-        summary: s,
-        next: RomAddr(std::num::wrapping_add_u16(a.0, 1)),
-    }
-}
-
-// The instruction of n bytes that was decoded at an address.
-fn decoded_at(i: Instruction, n: u8, a: RomAddr) -> Located
-    ensures { λ r. ⌜ r ≡ locatedIn (value (i, n)) (a .0) ⌝ }
-{
-    let next = RomAddr(std::num::wrapping_add_u16(a.0, n as u16));
-    Located {
-        summary: summary::summary_of(action::action_of(i, next)),
-        next: next,
-    }
-}
-
-fn instruction_at(image: &[u8], a: RomAddr) -> Located
-    ensures { λ r. ⌜ r ≡ locatedAt (now (image .entry)) (a .0) ⌝ }
-{
-    match decode::decode(image, a.0 as usize) {
-        Decoded::Found(i, n) => decoded_at(i, n, a),
-        Decoded::CutOff => no_instruction(a),
-        Decoded::Undefined => no_instruction(a),
-        Decoded::OddPair => no_instruction(a),
-    }
-}
-
-fn cost_at(image: &[u8], a: RomAddr) -> u8
-    ensures { λ r. ⌜ r ≡ costAt (now (image .entry)) (a .0) ⌝ }
-{
-    isa::cycles_of(base::byte_at(image, a.0 as usize))
-}
 
 // Which of rules 21 to 27 holds.
 struct Holding {
@@ -108,9 +60,9 @@ fn first_broken(cert: &[u8], a: RomAddr, s: Summary, cost: u8, next: RomAddr) ->
 fn number_in(image: &[u8], cert: &[u8], a: RomAddr) -> u8
     ensures { λ r. ⌜ r ≡ firstBroken (rulesAt (certificateOf (now (cert .entry))) (now (image .entry)) (a .0)) ⌝ }
 {
-    let i = instruction_at(image, a);
+    let i = located::instruction_at(image, a);
     let s = i.summary;
-    first_broken(cert, a, s, cost_at(image, a), i.next)
+    first_broken(cert, a, s, located::cost_at(image, a), i.next)
 }
 
 // The lowest number that is broken at an address; where no instruction starts, none is.

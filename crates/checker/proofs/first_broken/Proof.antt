@@ -3,7 +3,7 @@ use Rattle.checker.specs.declared.Holding.{Holding}
 use Rattle.checker.proofs.Laws.{first-by-value}
 use Rattle.safety.specs.Rules.{rule21, rule22, rule23, rule24, rule25, rule26, rule27}
 use Rattle.safety.specs.Verdicts.{firstBroken}
-use Rattle.checker.specs.Located.{tested}
+use Rattle.checker.specs.Tested.{tested}
 use Rattle.certificate.specs.Layout.{certificateOf}
 use Prim.Native.Nat.{_-_}
 use mathlib.Core.Path.{ap, _∙_}

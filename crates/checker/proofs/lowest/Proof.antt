@@ -1,7 +1,7 @@
 -- The rules from the last to the first: where one holds, the number of those behind it.
 use mathlib.Core.Path.{ap, _∙_}
 use Rattle.safety.specs.Verdicts.{firstBroken}
-use Rattle.checker.specs.Located.{tested, numberUnless}
+use Rattle.checker.specs.Tested.{tested, numberUnless}
 use borrow.Author.Needs.{needs}
 use Rattle.checker.proofs.lowest.Statement.{statement}
 use Rattle.checker.proofs.lowest.Tie as tie

@@ -1,7 +1,7 @@
 -- The rules on the instruction at the address, with its summary, the address behind it and its cost.
-use Rattle.checker.specs.declared.Located.{Located}
+use Rattle.located.specs.declared.Located.{Located}
 use Rattle.safety.specs.Verdicts.{rulesOn, firstBroken, summaryAt, nextAt}
-use Rattle.checker.specs.Located.{locatedIn}
+use Rattle.located.specs.Located.{locatedIn}
 use Rattle.certificate.specs.Layout.{certificateOf}
 use Prim.Native.Nat.{ℕ, _-_}
 use mathlib.Core.Path.{ap, _∙_}

@@ -1,9 +1,9 @@
 -- What does not decode is forbidden and one byte long.
-use Rattle.checker.specs.Located.{locatedIn}
+use Rattle.located.specs.Located.{locatedIn}
 use Rattle.safety.specs.Verdicts.{summaryFrom}
 use borrow.Author.Needs.{needs}
-use Rattle.checker.proofs.no_instruction.Statement.{statement}
-use Rattle.checker.proofs.no_instruction.Tie as tie
+use Rattle.located.proofs.no_instruction.Statement.{statement}
+use Rattle.located.proofs.no_instruction.Tie as tie
 
 forbidden-requires : tie.Need-forbidden-requires
 forbidden-requires c κs = search needs

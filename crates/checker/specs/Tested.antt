@@ -1,23 +1,11 @@
--- An instruction with its summary and the address behind it, and the rules by their values, as the checker's code holds them.
+-- The rules at an address by their values, as the checker's code holds them.
 -- Assumes nothing.
-use Prim.Native.Nat.{ℕ, _+_, _%_}
+use Prim.Native.Nat.{ℕ}
 use mathlib.Core.Bool.{Bool, true, false}
 use mathlib.Core.List.{List, [], _∷_}
-use Rattle.base.specs.Addresses.{romAddr}
-use Rattle.base.specs.Outcome.{Outcome}
 use Rattle.base.specs.Formula.{test}
-use Rattle.isa.specs.declared.Instruction.{Instruction}
-use Rattle.decode.specs.Decode.{decodeAt}
-use Rattle.safety.specs.Verdicts.{Rule, summaryFrom, sizeFrom}
+use Rattle.safety.specs.Verdicts.{Rule}
 use Rattle.checker.specs.declared.Holding.{Holding}
-use Rattle.checker.specs.declared.Located.{Located}
-
--- from what the decoder answers at a: as `summaryAt` and `nextAt`
-unfoldable pub locatedIn : Outcome (Instruction × ℕ) → ℕ → Located
-locatedIn d a = record { summary = summaryFrom d a; next = romAddr ((a + sizeFrom d) % 65536) }
-
-abbrev pub locatedAt : List ℕ → ℕ → Located
-locatedAt image a = locatedIn (decodeAt image a) a
 
 -- the rules by their values
 unfoldable pub tested : Holding → List Rule

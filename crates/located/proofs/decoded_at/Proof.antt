@@ -1,9 +1,9 @@
 -- A decoded instruction is located by its action's summary and its size.
 use borrow.Author.Needs.{needs}
-use Rattle.checker.specs.Located.{locatedIn}
+use Rattle.located.specs.Located.{locatedIn}
 use Rattle.safety.specs.Verdicts.{summaryFrom}
-use Rattle.checker.proofs.decoded_at.Statement.{statement}
-use Rattle.checker.proofs.decoded_at.Tie as tie
+use Rattle.located.proofs.decoded_at.Statement.{statement}
+use Rattle.located.proofs.decoded_at.Tie as tie
 
 wrapping-add-u16-requires : tie.Need-wrapping-add-u16-requires
 wrapping-add-u16-requires c κs = search needs

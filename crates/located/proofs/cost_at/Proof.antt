@@ -1,8 +1,8 @@
 -- The cost is that of the first byte.
 use Rattle.safety.specs.Verdicts.{costAt}
 use borrow.Author.Needs.{needs}
-use Rattle.checker.proofs.cost_at.Statement.{statement}
-use Rattle.checker.proofs.cost_at.Tie as tie
+use Rattle.located.proofs.cost_at.Statement.{statement}
+use Rattle.located.proofs.cost_at.Tie as tie
 
 cast-byte-at : tie.Need-cast-byte-at
 cast-byte-at c = search needs

@@ -5,11 +5,11 @@ use Rattle.isa.specs.declared.Instruction.{Instruction}
 use Rattle.isa.specs.declared.Decoded.{Decoded}
 use Prim.Native.Nat.{ℕ}
 use mathlib.Core.Path.{_≡_, sym, ap, _∙_}
-use Rattle.checker.specs.Located.{locatedIn}
+use Rattle.located.specs.Located.{locatedIn}
 use Rattle.safety.specs.Verdicts.{summaryFrom}
 use borrow.Author.Needs.{needs}
-use Rattle.checker.proofs.instruction_at.Statement.{statement}
-use Rattle.checker.proofs.instruction_at.Tie as tie
+use Rattle.located.proofs.instruction_at.Statement.{statement}
+use Rattle.located.proofs.instruction_at.Tie as tie
 
 cast-decode : tie.Need-cast-decode
 cast-decode c = search needs
