@@ -40,7 +40,7 @@ pub enum Change {
     Changed(NewValue),
 }
 
-// The range of a cell by an entry: its claim's, else 0 to 255 (asked of mapped cells alone: none is FFH).
+// The range of a cell by an entry: its claim's, else 0 to 255. Of FFH, which marks no claim, it says nothing.
 pub fn low_in(n: Entry, x: RegAddr) -> u8
     ensures { λ r. ⌜ ((C : Certificate) (a : ℕ) → n ≡ entryOf C a → r ≡ Rattle.safety.specs.Rules.low C a (x .0)) ⌝ }
 {

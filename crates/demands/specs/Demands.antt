@@ -1,7 +1,7 @@
 -- The customer's three demands, word for word, as theorems over the definitions. The contract of each call of the product says that its answer
 -- and every lent byte are what its definition gives:
 --   `decode` decodeAt; `encode` encodeAnswer, encodeInto; `copy_instruction` copyAnswer, copyInto;
---   `check_line` readLine; `read_line` readLine, lineBuffer; `read_text` textAnswer, textBuffer;
+--   `new_reader` begun; `check_line` readLine; `read_line` readLine, lineBuffer; `read_text` textAnswer, textBuffer;
 --   `start` started; `feed` feedStream, feedBuffer; `finish` finishAnswer; `write_image` writeAnswer, writeBuffer;
 --   `reset` resetState; `step` stepOf; `run` runOf; `check` verdictOf;
 --   `write_report` reportAnswer, reportBuffer; `judge_texts` printedAnswer, printedBuffer.

@@ -1,4 +1,4 @@
--- What a run's steps and cycles count: the completed steps, and their costs modulo 2^32.
+-- What a run's steps and cycles count, the completed steps and their costs modulo 2^32; and the state that a run returns.
 -- Assumes nothing.
 use Prim.Native.Nat.{ℕ, zero, suc, _+_, _/_, _%_, _<_}
 use mathlib.Core.Path.{_≡_, _∙_, refl, ap}

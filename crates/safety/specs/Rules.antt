@@ -163,7 +163,7 @@ isUnchanged unchanged = always
 isUnchanged (changed v) = never
 
 module _ (C : Certificate) where
-  -- the range of a cell at an address: its claim's, else 0 to 255 (asked of mapped cells alone: none is FFH)
+  -- the range of a cell at an address: its claim's, else 0 to 255; of FFH, which marks no claim, it says nothing
   unfoldable pub low : ℕ → ℕ → ℕ
   low a x = pick (eqb x (C .firstCell a)) (C .firstLow a) (pick (eqb x (C .secondCell a)) (C .secondLow a) 0)
 

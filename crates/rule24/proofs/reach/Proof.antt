@@ -18,26 +18,30 @@ use Rattle.rule24.proofs.reach.Tie as tie
 
 -- what the entry, once read, says of the pointer
 module _ (b : tie.After-claimed-in) where
+  -- what stands once the entry is read
+  abbrev e : tie.After-entry-of
+  e = b .before .before .before
+
   abbrev C : Certificate
-  C = certificateOf (b .before .before .before .before .before .before .args .cert .now)
+  C = certificateOf (e .before .before .before .args .cert .now)
 
   abbrev a : ℕ
-  a = b .before .before .before .before .before .before .args .a .0
+  a = e .before .before .before .args .a .0
 
   abbrev p : ℕ
-  p = b .before .before .before .before .before .before .args .p .0
+  p = e .before .before .before .args .p .0
 
   abbrev o : ℕ
-  o = b .before .before .before .before .before .before .args .o
+  o = e .before .before .before .args .o
 
   abbrev w : Bool
-  w = b .before .before .before .before .before .before .args .writing
+  w = e .before .before .before .args .writing
 
   abbrev within : Formula
   within = reachOf C a p o w
 
-  read : b .before .before .before .entry-of .result ≡ entryOf C a
-  read = b .before .before .before .entry-of .ensures ∙ b .before .before .before .before .entry-part .ensures .1
+  read : e .entry-of .result ≡ entryOf C a
+  read = e .entry-of .ensures ∙ e .before .entry-part .ensures .1
 
   lowest : b .before .before .low-in .result ≡ low C a p
   lowest = b .before .before .low-in .ensures C a read
