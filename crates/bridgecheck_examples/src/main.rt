@@ -1,4 +1,5 @@
-// Prints the names of an image file and a certificate file and their judgement, for each case; at the end the judgement of two texts.
+// Prints the names of an image file and a certificate file, what is wrong in them and their judgement, for each case; also the judgement of two
+// texts.
 use hex_write::Written;
 use libc::STDOUT_FILENO;
 use report::REPORT_LENGTH;
@@ -25,7 +26,7 @@ fn example(image_name: &[u8], certificate_name: &[u8]) {
     print(certificate_name);
     print(b"\n");
     let mut out = [0u8; REPORT_LENGTH];
-    let written = files::judge_files(image_name, certificate_name, &mut out);
+    let written = files::judge_files(image_name, certificate_name, &mut out, STDOUT_FILENO);
     print_written(written, &out);
 }
 
@@ -51,7 +52,7 @@ fn example_of_texts() {
 // Too short a buffer: 7.
 fn example_of_length(image_name: &[u8], certificate_name: &[u8]) {
     let mut out = [0u8; 1142];
-    match files::judge_files(image_name, certificate_name, &mut out) {
+    match files::judge_files(image_name, certificate_name, &mut out, STDOUT_FILENO) {
         Written::Bytes(_) => {
             print(b"written\n");
         }
@@ -99,10 +100,140 @@ fn other_examples() {
     example_of_length(b"p_image.hex", b"p_cert.hex");
 }
 
+// An image with one fault, told by its line.
+fn fault(image_name: &[u8]) {
+    example(image_name, b"p_cert.hex");
+}
+
+// Malformed lines.
+fn malformed_examples() {
+    fault(b"faults/empty_line.hex");
+    fault(b"faults/no_colon.hex");
+    fault(b"faults/control.hex");
+    fault(b"faults/no_digit.hex");
+    fault(b"faults/blank_behind.hex");
+    fault(b"faults/one_short.hex");
+    fault(b"faults/two_over.hex");
+    fault(b"faults/cut.hex");
+    fault(b"faults/end_with_data.hex");
+    fault(b"faults/end_sum.hex");
+}
+
+// Well-formed lines that are refused, and missing end lines.
+fn field_examples() {
+    fault(b"faults/wide_sum.hex");
+    fault(b"faults/start_record.hex");
+    fault(b"faults/overlap.hex");
+    fault(b"faults/ends_past.hex");
+    fault(b"faults/far.hex");
+    fault(b"faults/behind_end.hex");
+    fault(b"faults/last_data.hex");
+    fault(b"faults/last_sum.hex");
+}
+
+// The programs of the page "Idioms" of docs/CERTIFICATE.md.
+fn loop_idioms() {
+    example(b"idioms/loop_down/image.hex", b"idioms/loop_down/cert.hex");
+    example(
+        b"idioms/loop_down_obvious/image.hex",
+        b"idioms/loop_down_obvious/cert.hex",
+    );
+    example(
+        b"idioms/two_pointers/image.hex",
+        b"idioms/two_pointers/cert.hex",
+    );
+    example(
+        b"idioms/two_pointers_obvious/image.hex",
+        b"idioms/two_pointers_obvious/cert.hex",
+    );
+    example(
+        b"idioms/base_index/image.hex",
+        b"idioms/base_index/cert.hex",
+    );
+    example(
+        b"idioms/base_index_obvious/image.hex",
+        b"idioms/base_index_obvious/cert.hex",
+    );
+    example(b"idioms/one_index/image.hex", b"idioms/one_index/cert.hex");
+    example(
+        b"idioms/step_by_two/image.hex",
+        b"idioms/step_by_two/cert.hex",
+    );
+    example(
+        b"idioms/step_by_two_obvious/image.hex",
+        b"idioms/step_by_two_obvious/cert.hex",
+    );
+}
+
+fn nested_idioms() {
+    example(
+        b"idioms/nested_loops/image.hex",
+        b"idioms/nested_loops/cert.hex",
+    );
+    example(
+        b"idioms/nested_loops_obvious/image.hex",
+        b"idioms/nested_loops_obvious/cert.hex",
+    );
+    example(
+        b"idioms/nested_in_main/image.hex",
+        b"idioms/nested_in_main/cert.hex",
+    );
+    example(
+        b"idioms/outer_in_main/image.hex",
+        b"idioms/outer_in_main/cert.hex",
+    );
+    example(
+        b"idioms/wait_ready/image.hex",
+        b"idioms/wait_ready/cert.hex",
+    );
+    example(
+        b"idioms/wait_ready_obvious/image.hex",
+        b"idioms/wait_ready_obvious/cert.hex",
+    );
+    example(
+        b"idioms/wait_in_main/image.hex",
+        b"idioms/wait_in_main/cert.hex",
+    );
+}
+
+fn limit_idioms() {
+    example(
+        b"idioms/no_interrupts/image.hex",
+        b"idioms/no_interrupts/cert.hex",
+    );
+    example(
+        b"idioms/no_interrupts_obvious/image.hex",
+        b"idioms/no_interrupts_obvious/cert.hex",
+    );
+    example(
+        b"idioms/limit_register/image.hex",
+        b"idioms/limit_register/cert.hex",
+    );
+    example(
+        b"idioms/limit_register_obvious/image.hex",
+        b"idioms/limit_register_obvious/cert.hex",
+    );
+    example(
+        b"idioms/limit_counted_down/image.hex",
+        b"idioms/limit_counted_down/cert.hex",
+    );
+    example(b"idioms/tail_call/image.hex", b"idioms/tail_call/cert.hex");
+    example(
+        b"idioms/tail_call_obvious/image.hex",
+        b"idioms/tail_call_obvious/cert.hex",
+    );
+    example(b"idioms/tail_copy/image.hex", b"idioms/tail_copy/cert.hex");
+}
+
 fn main() {
     p_examples();
     absent_examples();
     refused_examples();
+    malformed_examples();
+    field_examples();
     other_examples();
     example_of_texts();
+    loop_idioms();
+    nested_idioms();
+    limit_idioms();
 }

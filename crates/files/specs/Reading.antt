@@ -1,20 +1,44 @@
--- What reading a file promises. No contract can say which bytes a file holds, so each promise names a text, what the file held, and says what was made of it.
+-- What reading a file promises. No contract can say which bytes a file holds, so each promise names a text, what was read of the file, and says what was made of it.
 -- Assumes nothing.
-use Prim.Native.Nat.{ℕ}
+use Prim.Native.Nat.{ℕ, zero, suc, _+_, _≤_}
 use mathlib.Core.Path.{_≡_}
-use mathlib.Core.List.{List}
+use mathlib.Core.List.{List, [], _∷_}
 use lib.ListN.{length}
+use lib.Dec.{eqb, ltb}
+use Rattle.base.specs.Choice.{pick}
 use Rattle.base.specs.Outcome.{Outcome}
 use Rattle.hex_text.specs.declared.Stream.{Stream}
 use Rattle.hex_text.specs.Text.{textAnswer, textBuffer}
-use Rattle.hex_text.specs.Stream.{feedStream, feedBuffer, Leaves}
+use Rattle.hex_text.specs.Stream.{started, feedStream, feedBuffer, finishAnswer, Leaves}
 use Rattle.judge.specs.Judgement.{printedAnswer, printedBuffer}
 
--- some text was fed to a stream
-pub record Fed (s next : Stream) (before after : List ℕ) : Type 0 where
+-- whether a character ends a line, as a number of line ends
+abbrev pub lineEnd : ℕ → ℕ
+lineEnd c = pick (eqb c 10) 1 0
+
+unfoldable pub lineEnds : List ℕ → ℕ
+lineEnds [] = 0
+lineEnds (c ∷ t) = lineEnd c + lineEnds t
+
+-- a count of lines, this many more; it stays at its greatest value
+unfoldable pub counted : ℕ → ℕ → ℕ
+counted n zero = n
+counted n (suc k) = counted (pick (ltb n 4294967295) (n + 1) n) k
+
+-- some text was fed to a stream, and its line ends were counted
+pub record Fed (s next : Stream) (n m : ℕ) (before after : List ℕ) : Type 0 where
   pub text : List ℕ
   pub stream : next ≡ feedStream (length before) s text
   pub buffer : after ≡ feedBuffer s text before
+  pub lines : m ≡ counted n (lineEnds text)
+
+-- reading stops before the end (3) only behind a refused line
+abbrev pub Settled : Stream → ℕ → Type 0
+Settled s state = state ≡ 3 → 1 ≤ s .number
+
+-- the answer to what was read of a file; one that failed (2) counts as empty
+abbrev pub answerOf : Stream → ℕ → ℕ → Outcome (Unit {0})
+answerOf s state size = pick (eqb state 2) (finishAnswer size started) (finishAnswer size s)
 
 -- some text was read as a whole file
 pub record Reads (answer : Outcome (Unit {0})) (before after : List ℕ) : Type 0 where

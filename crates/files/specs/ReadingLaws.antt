@@ -1,17 +1,23 @@
 -- A file that is read in pieces is read as some text; two such files are judged as their texts.
 -- Assumes nothing.
-use Prim.Native.Nat.{ℕ, _≤_}
-use mathlib.Core.Path.{_≡_, refl, sym, _∙_}
+use Prim.Native.Nat.{ℕ, zero, suc, _+_, _-_, _≤_, _<_}
+use mathlib.Core.Path.{_≡_, refl, sym, ap, _∙_}
 use mathlib.Core.List.{List, [], _∷_, _++_, append-nil}
-use lib.ListN.{length}
+use native.Mathlib.Nat.{not-suc-le-zero}
+use native.Mathlib.Omega.{arith}
+use lib.Dec.{eqb, ltb}
+use lib.ListN.{length, getD, take, drop, length-drop}
+use lib.Seq.{drop-cons, getD-drop}
 use mathlib.Core.Bool.{Bool, true, false}
 use Rattle.base.specs.Choice.{pick}
 use Rattle.base.specs.Outcome.{Outcome}
 use Rattle.base.specs.Outcome.Outcome.{value, refused}
 use Rattle.hex_line.specs.Line.{bufferLength}
 use Rattle.hex_text.specs.declared.Stream.{Stream}
-use Rattle.hex_text.specs.Text.{lines, linesAnswer, textAnswer, textBuffer}
+use Rattle.hex_text.specs.Text.{firstLength, lines, linesAnswer, textAnswer, textBuffer}
 use Rattle.hex_text.specs.Stream.{started, feedStream, feedBuffer, finishAnswer, Leaves}
+use Rattle.hex_text.specs.TextLaws.{first-positive, first-within}
+use Rattle.hex_text.specs.StreamLaws.{feed-refused}
 use Rattle.hex_text.specs.StreamTheorems.{feed-append, feed-append-buffer, piecesStream, piecesBuffer, wholeOf, stream-reads-text}
 use Rattle.certificate.specs.declared.Verdict.{Verdict}
 use Rattle.safety.specs.Verdicts.{verdictOf}
@@ -19,19 +25,70 @@ use Rattle.report.specs.Report.{reportAnswer, reportBuffer}
 use Rattle.judge.specs.Judgement.{judgement, blankImage, blankCertificate}
 use Rattle.judge.specs.JudgementLaws.{ReadFrom, judged}
 use Rattle.judge.specs.Refusals.{printed-within}
-use Rattle.files.specs.Reading.{Fed, Reads, Judges}
+use Rattle.files.specs.Reading.{lineEnd, lineEnds, counted, Fed, answerOf, Reads, Judges}
+
+counted-more : (n a b : ℕ) → counted (counted n a) b ≡ counted n (a + b)
+unfolding counted
+counted-more n zero b = let e : 0 + b ≡ b = omega arith in rw e
+counted-more n (suc a) b = let e : suc a + b ≡ suc (a + b) = omega arith in rw e (counted-more (pick (ltb n 4294967295) (n + 1) n) a b)
+
+ends-append : (a b : List ℕ) → lineEnds (a ++ b) ≡ lineEnds a + lineEnds b
+unfolding lineEnds
+ends-append [] b = omega arith
+ends-append (c ∷ a) b = omega (arith, ends-append a b)
+
+-- the line ends of a first line: its last character is the only one that may be LF
+pub first-ends : (t : List ℕ) → 0 < length t → lineEnds (take (firstLength t) t) ≡ lineEnd (getD t (firstLength t - 1) 0)
+unfolding lineEnds firstLength
+first-ends [] h = absurd (not-suc-le-zero h)
+first-ends (c ∷ []) h = by-test (eqb c 10)
+  where
+    by-test : (b : Bool) → lineEnds (take (pick b 1 1) (c ∷ [])) ≡ lineEnd (getD (c ∷ []) (pick b 1 1 - 1) 0)
+    by-test true = omega arith
+    by-test false = omega arith
+first-ends (c ∷ d ∷ t) h = by-test (eqb c 10) refl (first-ends (d ∷ t) (omega arith))
+  where
+    by-test : (b : Bool) → eqb c 10 ≡ b
+        → lineEnds (take (firstLength (d ∷ t)) (d ∷ t)) ≡ lineEnd (getD (d ∷ t) (firstLength (d ∷ t) - 1) 0)
+        → lineEnds (take (pick b 1 (suc (firstLength (d ∷ t)))) (c ∷ d ∷ t)) ≡ lineEnd (getD (c ∷ d ∷ t) (pick b 1 (suc (firstLength (d ∷ t))) - 1) 0)
+    by-test true e ih = omega arith
+    by-test false e ih =
+        let k : suc (firstLength (d ∷ t)) - 1 ≡ suc (firstLength (d ∷ t) - 1) = omega (arith, first-positive d t) in
+        rw (e, k, ih) (omega arith)
+
+-- where a line ends that starts within a text
+pub line-bounds : (s : List ℕ) (at e : ℕ) → at < length s → e ≡ at + firstLength (drop at s) → (at < e) × (e ≤ length s)
+line-bounds s at e h q =
+    let p : 0 < firstLength (drop at s) = rw (drop-cons s at 0 h) (first-positive (getD s at 0) (drop (suc at) s)) in
+    let w : firstLength (drop at s) ≤ length (drop at s) = first-within (drop at s) in
+    let n : length (drop at s) ≡ length s - at = length-drop at s in
+    (omega arith, omega arith)
 
 -- nothing was read
-pub fed-none : {s : Stream} {m : List ℕ} → Fed s s m m
-unfolding feedStream feedBuffer
-fed-none = record { text = []; stream = refl; buffer = refl }
+pub fed-none : {s : Stream} {n : ℕ} {m : List ℕ} → Fed s s n n m m
+unfolding feedStream feedBuffer lineEnds counted
+fed-none = record { text = []; stream = refl; buffer = refl; lines = refl }
+
+-- a line of a text was fed, and counted by its last character
+pub fed-line : {s next : Stream} {n : ℕ} {m after : List ℕ} (t : List ℕ) (at e : ℕ) → at < length t → e ≡ at + firstLength (drop at t)
+    → next ≡ feedStream (length m) s (take (e - at) (drop at t)) → after ≡ feedBuffer s (take (e - at) (drop at t)) m
+    → Fed s next n (counted n (lineEnd (getD t (e - 1) 0))) m after
+fed-line {n = n} t at e h q p b =
+    let w = line-bounds t at e h q in
+    let l : length (drop at t) ≡ length t - at = length-drop at t in
+    let k : firstLength (drop at t) ≡ e - at = omega arith in
+    let last : at + (e - at - 1) ≡ e - 1 = omega arith in
+    let ends = first-ends (drop at t) (omega arith) in
+    record { text = take (e - at) (drop at t); stream = p; buffer = b; lines = rw (rw (k, getD-drop at t (e - at - 1) 0, last) at ends) }
 
 -- one text, and another behind it
-pub fed-more : {s s₁ s₂ : Stream} {m m₁ m₂ : List ℕ} → length m₁ ≡ length m → Fed s s₁ m m₁ → Fed s₁ s₂ m₁ m₂ → Fed s s₂ m m₂
-fed-more {s} {s₁} {s₂} {m} {m₁} {m₂} e p q = record {
+pub fed-more : {s s₁ s₂ : Stream} {n n₁ n₂ : ℕ} {m m₁ m₂ : List ℕ} → length m₁ ≡ length m → Fed s s₁ n n₁ m m₁ → Fed s₁ s₂ n₁ n₂ m₁ m₂
+    → Fed s s₂ n n₂ m m₂
+fed-more {s} {s₁} {s₂} {n} {n₁} {n₂} {m} {m₁} {m₂} e p q = record {
   text = p .text ++ q .text;
   stream = q .stream ∙ rw (e, p .stream) (sym (feed-append (length m) s (p .text) (q .text)));
   buffer = q .buffer ∙ rw (p .stream, p .buffer) (sym (feed-append-buffer s (p .text) (q .text) m));
+  lines = q .lines ∙ rw (p .lines, ends-append (p .text) (q .text)) (counted-more n (lineEnds (p .text)) (lineEnds (q .text)));
 }
 
 -- one piece is the whole file
@@ -42,9 +99,9 @@ unfolding piecesStream piecesBuffer wholeOf
 one-piece t m = rw (append-nil t) at (stream-reads-text (t ∷ []) m)
 
 -- the end of the file
-pub reads-finish : {s : Stream} {o : Outcome (Unit {0})} {m m₁ : List ℕ} → length m₁ ≡ length m → Fed started s m m₁
+pub reads-finish : {s : Stream} {o : Outcome (Unit {0})} {n k : ℕ} {m m₁ : List ℕ} → length m₁ ≡ length m → Fed started s n k m m₁
     → o ≡ finishAnswer (length m₁) s → Reads o m m₁
-reads-finish {s} {o} {m} {m₁} e p a =
+reads-finish {s} {o} {n} {k} {m} {m₁} e p a =
     let w = one-piece (p .text) m in
     let answers : o ≡ textAnswer (p .text) (length m) = a ∙ rw (e, p .stream) (w .0) in
     record { text = p .text; answers = answers; leaves = rw (answers, p .buffer) (w .1) }
@@ -65,6 +122,24 @@ reads-none {o} {m} {m₁} e a =
     let f : textAnswer [] (length m) ≡ refused (pick (bufferLength (length m)) 6 7) = empty-answer (length m) in
     let g : finishAnswer (length m₁) started ≡ refused (pick (bufferLength (length m)) 6 7) = rw e (one-piece [] m .0 ∙ f) in
     rw (a ∙ g) (record { text = []; answers = sym f; leaves = tt })
+
+-- the end of the reading
+pub reads-turn : (state : ℕ) {s : Stream} {o : Outcome (Unit {0})} {n k : ℕ} {m m₁ : List ℕ} → length m₁ ≡ length m → Fed started s n k m m₁
+    → o ≡ answerOf s state (length m₁) → Reads o m m₁
+reads-turn state {s} {o} {n} {k} {m} {m₁} e p a = by-test (eqb state 2) a
+  where
+    by-test : (t : Bool) → o ≡ pick t (finishAnswer (length m₁) started) (finishAnswer (length m₁) s) → Reads o m m₁
+    by-test true q = reads-none e q
+    by-test false q = reads-finish e p q
+
+-- what stands behind a refused line cannot change the answer, so it is not read
+pub settled-answer : {s : Stream} {n k : ℕ} {m m₁ : List ℕ} (p : Fed started s n k m m₁) → 1 ≤ s .number → (rest : List ℕ)
+    → textAnswer (p .text ++ rest) (length m) ≡ textAnswer (p .text) (length m)
+settled-answer {s} {n} {k} {m} {m₁} p h rest =
+    let size = length m in
+    let f : feedStream size started (p .text ++ rest) ≡ feedStream size started (p .text) =
+    feed-append size started (p .text) rest ∙ (rw (p .stream) at (feed-refused size s rest h)) in
+    sym (one-piece (p .text ++ rest) m .0) ∙ (ap (finishAnswer size) f ∙ one-piece (p .text) m .0)
 
 read-from : {o : Outcome (Unit {0})} {m m₁ : List ℕ} (p : Reads o m m₁) → ReadFrom (p .text) o m m₁
 read-from p = record { answers = p .answers; leaves = p .leaves }

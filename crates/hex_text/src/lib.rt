@@ -38,6 +38,16 @@ fn line_end(text: &[u8], at: usize) -> usize
     e
 }
 
+// The same for any position; one past the text's end is handed back.
+pub fn line_behind(text: &[u8], at: usize) -> usize
+    ensures { λ r. ⌜ r ≡ at + firstLength (drop at (now (text .entry))) ⌝ }
+{
+    if at < text.len() {
+        return line_end(text, at);
+    }
+    at
+}
+
 // The answer to the lines of a text for a buffer of this length. It writes nothing.
 fn check_lines(text: &[u8], length: usize) -> Text
     ensures { λ r. ⌜ textOutcome r ≡ linesAnswer (lines (now (text .entry))) begun length ⌝ }
@@ -98,7 +108,7 @@ pub fn read_text(text: &[u8], buffer: &mut [u8]) -> Text
 }
 
 // The longest valid line: a colon, 260 pairs of digits, CR LF.
-const LONGEST: usize = 523;
+pub const LONGEST: usize = 523;
 
 // A file that is being read: the reader, the characters of the unfinished line, how many they are, and the number of the refusal, 0 while there is none.
 pub struct Stream {

@@ -1,5 +1,6 @@
 -- `read_piece`: what came was fed.
 -- Assumes nothing.
+use native.Mathlib.Omega.{arith}
 use Rattle.files.specs.ReadingLaws.{fed-none}
 use borrow.Author.Needs.{needs}
 use Rattle.files.proofs.read_piece.Statement.{statement}
@@ -14,11 +15,17 @@ slice-aggregate-read c = search needs
 read-requires : tie.Need-read-requires
 read-requires c κs = search needs
 
+make-turn-requires : tie.Need-make-turn-requires
+make-turn-requires c κs = search needs
+
 returns : tie.Need-returns
-returns c = fed-none
+returns c = rw (c .make-turn .ensures) (fed-none, λ h. omega (arith, h))
+
+make-turn-requires-2 : tie.Need-make-turn-requires-2
+make-turn-requires-2 c κs = search needs
 
 returns-2 : tie.Need-returns-2
-returns-2 c = fed-none
+returns-2 c = rw (c .make-turn2 .ensures) (fed-none, λ h. omega (arith, h))
 
 slice-aggregate-count : tie.Need-slice-aggregate-count
 slice-aggregate-count c = search needs
@@ -29,11 +36,11 @@ count-requires c κs = search needs
 array-share-prefix-piece : tie.Need-array-share-prefix-piece
 array-share-prefix-piece c = search needs
 
-slice-aggregate-feed : tie.Need-slice-aggregate-feed
-slice-aggregate-feed c = search needs
+slice-aggregate-feed-lines : tie.Need-slice-aggregate-feed-lines
+slice-aggregate-feed-lines c = search needs
 
-feed-requires : tie.Need-feed-requires
-feed-requires c κs = search needs
+feed-lines-requires : tie.Need-feed-lines-requires
+feed-lines-requires c κs = search needs
 
 same-length : tie.Need-same-length
 same-length c = search needs
@@ -48,12 +55,14 @@ read-piece-spec =
     buffer-requires
     slice-aggregate-read
     read-requires
+    make-turn-requires
     returns
+    make-turn-requires-2
     returns-2
     slice-aggregate-count
     count-requires
     array-share-prefix-piece
-    slice-aggregate-feed
-    feed-requires
+    slice-aggregate-feed-lines
+    feed-lines-requires
     same-length
     returns-3)

@@ -1,4 +1,4 @@
--- `main`: what was written is within the buffer.
+-- `judge_folder`: what was written is within the buffer.
 -- Assumes nothing.
 use mathlib.Core.Path.{sym}
 use Prim.Native.Nat.{_≤_}
@@ -7,8 +7,8 @@ use lib.ListN.{length}
 use lib.Seq.{length-take-le}
 use Rattle.files.specs.ReadingLaws.{judges-within}
 use borrow.Author.Needs.{needs}
-use Rattle.bridgecheck.proofs.main.Statement.{statement}
-use Rattle.bridgecheck.proofs.main.Tie as tie
+use Rattle.command.proofs.judge_folder.Statement.{statement}
+use Rattle.command.proofs.judge_folder.Tie as tie
 
 slice-aggregate-judge-files : tie.Need-slice-aggregate-judge-files
 slice-aggregate-judge-files c = search needs
@@ -50,8 +50,8 @@ returns c = search needs
 returns-2 : tie.Need-returns-2
 returns-2 c = search needs
 
-pub main-spec : {M : Type 1} → statement M
-main-spec =
+pub judge-folder-spec : {M : Type 1} → statement M
+judge-folder-spec =
     tie.close
     (tie.spec
     slice-aggregate-judge-files
