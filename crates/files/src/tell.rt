@@ -133,7 +133,7 @@ fn print_finding(errors: i32, finding: Finding) {
     }
 }
 
-// The number of the line that the stream holds, and whether an LF ended it.
+// The number of the line that the stream holds. Its LF, if it has one, is counted already.
 fn line_number(stream: Stream, lines: u32) -> u64 {
     let held = stream.held;
     if stream.count == 0 {

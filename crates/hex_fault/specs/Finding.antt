@@ -6,10 +6,10 @@ use lib.ListN.{length, getD, drop}
 use lib.Dec.{eqb, ltb}
 use Rattle.base.specs.Choice.{pick}
 use Rattle.base.specs.Outcome.{onOutcome}
-use Rattle.hex_line.specs.Record.{digitOf, pairAt, fieldsOf, bodyOf}
+use Rattle.hex_line.specs.Record.{digitOf, pairAt, countOf, parseBody, bodyOf}
 use Rattle.hex_line.specs.Line.{readLine}
 use Rattle.hex_line.specs.declared.Reader.{Reader}
-use Rattle.hex_line.specs.declared.Fault.{Fault}
+use Rattle.hex_line.specs.declared.Fields.{Fields}
 use Rattle.hex_fault.specs.declared.Finding.{Finding}
 
 -- how many digits a text begins with
@@ -19,13 +19,11 @@ digitsFrom (c ∷ t) = pick (ltb 15 (digitOf c)) 0 (suc (digitsFrom t))
 
 -- how many characters the length byte calls for
 abbrev pub calledFor : List ℕ → ℕ
-calledFor body = fieldsOf body .count * 2 + 11
+calledFor body = countOf body * 2 + 11
 
--- all characters behind the colon are digits: their number is wrong, or it is a type 01 line other than the end line
+-- all characters behind the colon are digits, but not as many as the length byte calls for
 abbrev pub wrongCount : List ℕ → Finding
-wrongCount body =
-    pick (ltb (length body) 3) (Finding.Cut (length body))
-    (pick (eqb (length body) (calledFor body)) Finding.NoEndLine (Finding.Characters (length body) (calledFor body)))
+wrongCount body = pick (ltb (length body) 3) (Finding.Cut (length body)) (Finding.Characters (length body) (calledFor body))
 
 -- the first thing that is wrong in a malformed line
 abbrev pub wrongDigit : List ℕ → ℕ → Finding
@@ -44,31 +42,28 @@ lastPair body = pairAt body (length body - 2)
 abbrev pub rightSum : ℕ → ℕ → ℕ
 rightSum found sum = (found + 256 - sum) % 256
 
-unfoldable pub badSum : List ℕ → Finding
-badSum body = Finding.Sum (lastPair body) (rightSum (lastPair body) (fieldsOf body .sum))
+abbrev pub badSum : List ℕ → ℕ → Finding
+badSum body sum = Finding.Sum (lastPair body) (rightSum (lastPair body) sum)
 
--- by the refusal
-abbrev pub faultFinding : List ℕ → ℕ → Reader → Fault → Finding
-faultFinding body size reader Fault.Malformed = malformed body
-faultFinding body size reader Fault.BadSum = badSum body
-faultFinding body size reader Fault.BadType = Finding.Type (fieldsOf body .kind)
-faultFinding body size reader Fault.Overlap = Finding.Address (fieldsOf body .address) (reader .next)
-faultFinding body size reader Fault.PastEnd = Finding.End (fieldsOf body .address + fieldsOf body .count) size
-faultFinding body size reader Fault.AfterEnd = Finding.BehindEnd
-faultFinding body size reader Fault.WrongLength = Finding.OtherBuffer
+-- in a well-formed line, by the number of its refusal; 1 is that of a type 01 line other than the end line
+abbrev pub fieldFinding : List ℕ → ℕ → Reader → ℕ → Fields → Finding
+fieldFinding body size reader n f =
+    pick (eqb n 2) (badSum body (f .sum))
+    (pick (eqb n 3) (Finding.Type (f .kind))
+    (pick (eqb n 4) (Finding.Address (f .address) (reader .next))
+    (pick (eqb n 5) (Finding.End (f .address + f .count) size) Finding.NoEndLine)))
 
--- the refusal of a number
-abbrev pub faultOf : ℕ → Fault
-faultOf n =
-    pick (eqb n 1) Fault.Malformed
-    (pick (eqb n 2) Fault.BadSum
-    (pick (eqb n 3) Fault.BadType
-    (pick (eqb n 4) Fault.Overlap (pick (eqb n 5) Fault.PastEnd (pick (eqb n 6) Fault.AfterEnd Fault.WrongLength)))))
+abbrev pub lineFinding : List ℕ → ℕ → Reader → ℕ → Finding
+lineFinding body size reader n = onOutcome (parseBody body) (fieldFinding body size reader n) (λ k. malformed body)
+
+-- 7 and 6 are no fault of the line itself
+abbrev pub refusalFinding : List ℕ → ℕ → Reader → ℕ → Finding
+refusalFinding body size reader n =
+    pick (eqb n 7) Finding.OtherBuffer (pick (eqb n 6) Finding.BehindEnd (lineFinding body size reader n))
 
 -- in a line, for a buffer of this size
 unfoldable pub findingOf : Reader → ℕ → List ℕ → Finding
-findingOf reader size line =
-    onOutcome (readLine reader size line) (λ next. Finding.Right) (λ n. faultFinding (bodyOf line) size reader (faultOf n))
+findingOf reader size line = onOutcome (readLine reader size line) (λ next. Finding.Right) (refusalFinding (bodyOf line) size reader)
 
 -- the number of the refusal that a finding tells of, 0 of a line that is read
 abbrev pub findingNumber : Finding → ℕ

@@ -6,94 +6,78 @@ use mathlib.Core.Bool.{Bool, true, false}
 use mathlib.Core.List.{List, [], _∷_}
 use native.Mathlib.Numerals.{add-one}
 use native.Mathlib.Omega.{arith}
-use lib.Dec.{eqb, ltb}
+use lib.Dec.{eqb, leb, ltb}
 use lib.ListN.{length, getD, drop, drop-of-length-le}
 use lib.Seq.{drop-cons}
-use borrow.Author.Tests.{eqb-true, eqb-false, lt-ltb, le-ltb}
+use borrow.Author.Tests.{lt-ltb, le-ltb}
 use Rattle.base.specs.Choice.{pick}
-use Rattle.base.specs.Outcome.{Outcome, onOutcome}
+use Rattle.base.specs.ChoiceLaws.{pick-has}
+use Rattle.base.specs.Outcome.{Outcome, andThen, onOutcome}
 use Rattle.base.specs.Outcome.Outcome.{value, refused}
-use Rattle.hex_line.specs.Record.{digitOf, bodyOf}
-use Rattle.hex_line.specs.Line.{faultNumber, readLine}
-use Rattle.hex_line.specs.Refusals.{line-number}
+use Rattle.hex_line.specs.Record.{digitOf, sumOf, countOf, parseBody, bodyOf}
+use Rattle.hex_line.specs.Line.{bufferLength, readFields, readLine}
 use Rattle.hex_line.specs.declared.Reader.{Reader}
-use Rattle.hex_line.specs.declared.Fault.{Fault}
+use Rattle.hex_line.specs.declared.Fields.{Fields}
 use Rattle.hex_fault.specs.declared.Finding.{Finding}
-use Rattle.hex_fault.specs.Finding.{digitsFrom, calledFor, malformed, rightSum, badSum, faultFinding, faultOf, findingOf, findingNumber}
+use Rattle.hex_fault.specs.Finding.{digitsFrom, malformed, rightSum, refusalFinding, findingOf, findingNumber}
 
-malformed-number : (body : List ℕ) → findingNumber (malformed body) ≡ 1
+abbrev TellsOne : Finding → Type 0
+TellsOne x = findingNumber x ≡ 1
+
+malformed-number : (body : List ℕ) → TellsOne (malformed body)
 unfolding malformed
 malformed-number body =
     let end = 1 + digitsFrom (drop 1 body) in
-    by-test end (eqb (length body) 0) (eqb (getD body 0 0) 58) (ltb end (length body)) (ltb (length body) 3) (eqb (length body) (calledFor body))
-  where
-    by-test : (end : ℕ) (a b c d e : Bool)
-        → findingNumber (
-        pick a Finding.Empty
-        (pick b
-        (pick c (Finding.NoDigit (end + 1) (getD body end 0))
-        (pick d (Finding.Cut (length body)) (pick e Finding.NoEndLine (Finding.Characters (length body) (calledFor body)))))
-        (Finding.NoColon (getD body 0 0)))
-        )
-        ≡ 1
-    by-test end true b c d e = refl
-    by-test end false false c d e = refl
-    by-test end false true true d e = refl
-    by-test end false true false true e = refl
-    by-test end false true false false true = refl
-    by-test end false true false false false = refl
+    pick-has TellsOne (eqb (length body) 0) _ _ (λ _. refl)
+    (λ _. pick-has TellsOne (eqb (getD body 0 0) 58) _ _
+    (λ _. pick-has TellsOne (ltb end (length body)) _ _ (λ _. refl)
+    (λ _. pick-has TellsOne (ltb (length body) 3) _ _ (λ _. refl) (λ _. refl)))
+    (λ _. refl))
 
-fault-number : (body : List ℕ) (size : ℕ) (reader : Reader) (fault : Fault) → findingNumber (faultFinding body size reader fault) ≡ faultNumber fault
-unfolding badSum
-fault-number body size reader Fault.Malformed = malformed-number body
-fault-number body size reader Fault.BadSum = refl
-fault-number body size reader Fault.BadType = refl
-fault-number body size reader Fault.Overlap = refl
-fault-number body size reader Fault.PastEnd = refl
-fault-number body size reader Fault.AfterEnd = refl
-fault-number body size reader Fault.WrongLength = refl
+-- a malformed line is refused by 1
+abbrev RefusedByOne : Outcome Fields → Type 0
+RefusedByOne (value f) = Unit {0}
+RefusedByOne (refused k) = k ≡ 1
 
--- the numbers are those of the refusals
-fault-of : (n : ℕ) → 1 ≤ n → n ≤ 7 → faultNumber (faultOf n) ≡ n
-fault-of n h k = by-test (eqb n 1) (eqb n 2) (eqb n 3) (eqb n 4) (eqb n 5) (eqb n 6) refl refl refl refl refl refl
-  where
-    by-test : (a b c d e f : Bool) → eqb n 1 ≡ a → eqb n 2 ≡ b → eqb n 3 ≡ c → eqb n 4 ≡ d → eqb n 5 ≡ e → eqb n 6 ≡ f
-        → faultNumber (
-        pick a Fault.Malformed
-        (pick b Fault.BadSum (pick c Fault.BadType (pick d Fault.Overlap (pick e Fault.PastEnd (pick f Fault.AfterEnd Fault.WrongLength)))))
-        )
-        ≡ n
-    by-test true b c d e f p q r s t u = sym (eqb-true n 1 p)
-    by-test false true c d e f p q r s t u = sym (eqb-true n 2 q)
-    by-test false false true d e f p q r s t u = sym (eqb-true n 3 r)
-    by-test false false false true e f p q r s t u = sym (eqb-true n 4 s)
-    by-test false false false false true f p q r s t u = sym (eqb-true n 5 t)
-    by-test false false false false false true p q r s t u = sym (eqb-true n 6 u)
-    by-test false false false false false false p q r s t u =
-        omega (arith, eqb-false n 1 p, eqb-false n 2 q, eqb-false n 3 r, eqb-false n 4 s, eqb-false n 5 t, eqb-false n 6 u)
+parse-number : (body : List ℕ) → RefusedByOne (parseBody body)
+unfolding parseBody
+parse-number body =
+    pick-has RefusedByOne (eqb (getD body 0 0) 58) _ _
+    (λ _. pick-has RefusedByOne (eqb (length body) (countOf body * 2 + 11)) _ _
+    (λ _. pick-has RefusedByOne (ltb (sumOf body (countOf body + 5)) 256) _ _ (λ _. tt) (λ _. refl))
+    (λ _. refl))
+    (λ _. refl)
 
-pub fault-back : (fault : Fault) → faultOf (faultNumber fault) ≡ fault
-fault-back Fault.Malformed = refl
-fault-back Fault.BadSum = refl
-fault-back Fault.BadType = refl
-fault-back Fault.Overlap = refl
-fault-back Fault.PastEnd = refl
-fault-back Fault.AfterEnd = refl
-fault-back Fault.WrongLength = refl
+-- the finding belongs to this answer of the reader
+abbrev Agrees : List ℕ → ℕ → Reader → Outcome Reader → Type 0
+Agrees body size reader o = findingNumber (onOutcome o (λ next. Finding.Right) (refusalFinding body size reader)) ≡ onOutcome o (λ next. 0) (λ n. n)
+
+fields-agree : (body : List ℕ) (size : ℕ) (reader : Reader) (f : Fields) → parseBody body ≡ value f → Agrees body size reader (readFields reader size f)
+fields-agree body size reader f e =
+    pick-has (Agrees body size reader) (eqb (f .kind) 1) _ _
+    (λ _. pick-has (Agrees body size reader) (eqb (f .count) 0) _ _
+    (λ _. pick-has (Agrees body size reader) (eqb (f .address) 0) _ _
+    (λ _. pick-has (Agrees body size reader) (eqb (f .sum) 0) _ _ (λ _. refl) (λ _. rw e)) (λ _. rw e)) (λ _. rw e))
+    (λ _. pick-has (Agrees body size reader) (eqb (f .sum) 0) _ _
+    (λ _. pick-has (Agrees body size reader) (eqb (f .kind) 0) _ _
+    (λ _. pick-has (Agrees body size reader) (leb (reader .next) (f .address)) _ _
+    (λ _. pick-has (Agrees body size reader) (leb (f .address + f .count) size) _ _ (λ _. refl) (λ _. rw e)) (λ _. rw e)) (λ _. rw e))
+    (λ _. rw e))
 
 -- the finding's number is the reader's
 pub finding-number : (reader : Reader) (size : ℕ) (line : List ℕ)
     → findingNumber (findingOf reader size line) ≡ onOutcome (readLine reader size line) (λ next. 0) (λ n. n)
-unfolding findingOf
-finding-number reader size line = by-answer (readLine reader size line) refl
+unfolding findingOf readLine
+finding-number reader size line = by-test (bufferLength size) (reader .ended) (parseBody (bodyOf line)) refl
   where
-    by-answer : (o : Outcome Reader) → readLine reader size line ≡ o
-        → findingNumber (onOutcome o (λ next. Finding.Right) (λ n. faultFinding (bodyOf line) size reader (faultOf n)))
-        ≡ onOutcome o (λ next. 0) (λ n. n)
-    by-answer (value next) e = refl
-    by-answer (refused n) e =
-        let h = line-number reader size line n e in
-        fault-number (bodyOf line) size reader (faultOf n) ∙ fault-of n (h .0) (h .1)
+    by-test : (a d : Bool) (o : Outcome Fields) → parseBody (bodyOf line) ≡ o
+        → Agrees (bodyOf line) size reader (pick a (pick d (refused 6) (andThen o (readFields reader size))) (refused 7))
+    by-test false d o e = refl
+    by-test true true o e = refl
+    by-test true false (value f) e = fields-agree (bodyOf line) size reader f e
+    by-test true false (refused k) e =
+        let one : k ≡ 1 = rw e at (parse-number (bodyOf line)) in
+        rw (one, e) (malformed-number (bodyOf line))
 
 -- the sum byte that is named makes the sum of the line 0 modulo 256
 pub right-sum : (others found sum : ℕ) → sum ≡ (others + found) % 256 → (others + rightSum found sum) % 256 ≡ 0

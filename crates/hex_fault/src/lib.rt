@@ -3,10 +3,11 @@ ghost use mathlib.Core.Path.{_≡_};
 ghost use Prim.Native.Nat.{_+_, _-_, _<_, _≤_};
 ghost use lib.ListN.{length, drop};
 ghost use Rattle.hex_line.specs.Record.{bodyOf};
-ghost use Rattle.hex_fault.specs.Finding.{digitsFrom, lastPair, malformed, badSum, faultFinding, findingOf};
+ghost use Rattle.hex_fault.specs.Finding.{digitsFrom, calledFor, malformed, lastPair, badSum, fieldFinding, lineFinding, refusalFinding, findingOf};
 use base::byte_at;
-use hex_line::Fault;
+use hex_line::Fields;
 use hex_line::Line;
+use hex_line::Parsed;
 use hex_line::Reader;
 
 // Right: the line is read. Two numbers are what was found and what should stand there.
@@ -50,6 +51,15 @@ fn digits_end(body: &[u8]) -> usize
     i
 }
 
+// How many characters the length byte calls for.
+fn called_for(body: &[u8]) -> usize
+    ensures { λ r. ⌜ r ≡ calledFor (now (body .entry)) ⌝ }
+{
+    let high = hex_line::digit(byte_at(body, 1));
+    let low = hex_line::digit(byte_at(body, 2));
+    hex_line::join(high, low) as usize * 2 + 11
+}
+
 // A line that is no colon with the pairs that its length byte calls for.
 fn malformed_finding(body: &[u8]) -> Finding
     ensures { λ r. ⌜ r ≡ malformed (now (body .entry)) ⌝ }
@@ -69,12 +79,7 @@ fn malformed_finding(body: &[u8]) -> Finding
     if n < 3 {
         return Finding::Cut(n);
     }
-    let f = hex_line::fields_of(body);
-    let called = f.count * 2 + 11;
-    if n == called {
-        return Finding::NoEndLine;
-    }
-    Finding::Characters(n, called)
+    Finding::Characters(n, called_for(body))
 }
 
 fn less_two(n: usize) -> usize
@@ -97,28 +102,55 @@ fn last_pair(body: &[u8]) -> u16
 }
 
 // The sum byte, and the one that makes the sum 0 modulo 256.
-fn sum_finding(body: &[u8]) -> Finding
-    ensures { λ r. ⌜ r ≡ badSum (now (body .entry)) ⌝ }
+fn sum_finding(body: &[u8], sum: u16) -> Finding
+    requires { ⌜ sum < 257 ⌝ }
+    ensures { λ r. ⌜ r ≡ badSum (now (body .entry)) sum ⌝ }
 {
     let found = last_pair(body);
-    let f = hex_line::fields_of(body);
-    Finding::Sum(found, (found + 256 - f.sum) % 256)
+    Finding::Sum(found, (found + 256 - sum) % 256)
 }
 
-// What was found by a refusal.
-fn fault_finding(fault: Fault, body: &[u8], length: usize, reader: Reader) -> Finding
-    ensures { λ r. ⌜ r ≡ faultFinding (now (body .entry)) length reader fault ⌝ }
+// What was found in a well-formed line, by the number of its refusal.
+fn field_finding(number: u8, f: Fields, body: &[u8], length: usize, reader: Reader) -> Finding
+    requires { ⌜ (f .count < 257) × (f .address < 66000) × (f .sum < 257) ⌝ }
+    ensures { λ r. ⌜ r ≡ fieldFinding (now (body .entry)) length reader number f ⌝ }
 {
-    let f = hex_line::fields_of(body);
-    match fault {
-        Fault::Malformed => malformed_finding(body),
-        Fault::BadSum => sum_finding(body),
-        Fault::BadType => Finding::Type(f.kind),
-        Fault::Overlap => Finding::Address(f.address, reader.next),
-        Fault::PastEnd => Finding::End(f.address + f.count, length),
-        Fault::AfterEnd => Finding::BehindEnd,
-        Fault::WrongLength => Finding::OtherBuffer,
+    if number == 2 {
+        return sum_finding(body, f.sum);
     }
+    if number == 3 {
+        return Finding::Type(f.kind);
+    }
+    if number == 4 {
+        return Finding::Address(f.address, reader.next);
+    }
+    if number == 5 {
+        return Finding::End(f.address + f.count, length);
+    }
+    Finding::NoEndLine
+}
+
+// What was found in a line that is refused for itself.
+fn line_finding(number: u8, body: &[u8], length: usize, reader: Reader) -> Finding
+    ensures { λ r. ⌜ r ≡ lineFinding (now (body .entry)) length reader number ⌝ }
+{
+    match hex_line::parse(body) {
+        Parsed::Formed(f) => field_finding(number, f, body, length, reader),
+        Parsed::Malformed => malformed_finding(body),
+    }
+}
+
+// 7 and 6 are no fault of the line itself.
+fn refusal_finding(number: u8, body: &[u8], length: usize, reader: Reader) -> Finding
+    ensures { λ r. ⌜ r ≡ refusalFinding (now (body .entry)) length reader number ⌝ }
+{
+    if number == 7 {
+        return Finding::OtherBuffer;
+    }
+    if number == 6 {
+        return Finding::BehindEnd;
+    }
+    line_finding(number, body, length, reader)
 }
 
 // What was found in a line, with or without its LF or CR LF, for a buffer of this length.
@@ -129,7 +161,7 @@ pub fn find(line: &[u8], length: usize, reader: Reader) -> Finding
         Line::Read(_) => Finding::Right,
         Line::Refused(fault) => {
             let n = hex_line::body_length(line);
-            fault_finding(fault, &line[..n], length, reader)
+            refusal_finding(hex_line::number(fault), &line[..n], length, reader)
         }
     }
 }

@@ -63,12 +63,9 @@ abbrev pub parsedOutcome : Parsed → Outcome Fields
 parsedOutcome (Parsed.Formed f) = value f
 parsedOutcome Parsed.Malformed = refused 1
 
--- the fields of a line are small enough to add
-abbrev pub SmallFields : Fields → Type 0
-SmallFields f = (f .count < 257) × (f .address < 66000) × (f .kind < 257) × (f .sum < 257)
-
+-- the fields of a formed line are small enough to add
 abbrev pub Small : Parsed → Type 0
-Small (Parsed.Formed f) = SmallFields f
+Small (Parsed.Formed f) = (f .count < 257) × (f .address < 66000) × (f .sum < 257)
 Small Parsed.Malformed = Unit {0}
 
 -- the length of a line without its LF or CR LF

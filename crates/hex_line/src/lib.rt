@@ -3,7 +3,7 @@ ghost use mathlib.Core.Path.{_≡_};
 ghost use Prim.Native.Nat.{_+_, _*_, _%_, _<_, _≤_};
 ghost use mathlib.Core.List.{_++_};
 ghost use lib.ListN.{length, drop};
-ghost use Rattle.hex_line.specs.Record.{digitOf, joined, pairAt, added, sumOf, dataOf, countOf, addressOf, fieldsOf, parseBody, parsedOutcome, SmallFields, Small, bodyLength, bodyOf};
+ghost use Rattle.hex_line.specs.Record.{digitOf, joined, pairAt, added, sumOf, dataOf, countOf, addressOf, parseBody, parsedOutcome, Small, bodyLength, bodyOf};
 ghost use Rattle.hex_line.specs.Line.{bufferLength, begun, faultNumber, lineOutcome, readFields, readLine, stored, lineBuffer};
 use base::byte_at;
 
@@ -38,7 +38,8 @@ pub struct Fields {
     pub sum: u16,
 }
 
-enum Parsed {
+// The fields of a well-formed line, or none.
+pub enum Parsed {
     Formed(Fields),
     Malformed,
 }
@@ -152,43 +153,35 @@ fn sum_of(body: &[u8], n: usize) -> u16
     sum
 }
 
-// The fields of a line without its end, whatever it holds: a pair or a sum that is none counts as 256.
-pub fn fields_of(body: &[u8]) -> Fields
-    ensures { λ f. ⌜ f ≡ fieldsOf (now (body .entry)) ⌝ }
-    ensures { λ f. ⌜ SmallFields f ⌝ }
-{
-    let count = pair_at(body, 1) as usize;
-    let high = pair_at(body, 3) as usize;
-    let low = pair_at(body, 5) as usize;
-    let kind = pair_at(body, 7);
-    Fields {
-        count: count,
-        address: high * 256 + low,
-        kind: kind,
-        sum: sum_of(body, count + 5),
-    }
-}
-
 // The fields of a line without its end, if it is a colon and the pairs that its length byte calls for.
-fn parse(body: &[u8]) -> Parsed
+pub fn parse(body: &[u8]) -> Parsed
     ensures { λ r. ⌜ (parsedOutcome r ≡ parseBody (now (body .entry))) × Small r ⌝ }
 {
     if byte_at(body, 0) != 58 {
         return Parsed::Malformed;
     }
-    let f = fields_of(body);
-    if body.len() != f.count * 2 + 11 {
+    let count = pair_at(body, 1) as usize;
+    if body.len() != count * 2 + 11 {
         return Parsed::Malformed;
     }
-    if f.sum < 256 {
-        return Parsed::Formed(f);
+    let sum = sum_of(body, count + 5);
+    if sum < 256 {
+        let high = pair_at(body, 3) as usize;
+        let low = pair_at(body, 5) as usize;
+        let kind = pair_at(body, 7);
+        return Parsed::Formed(Fields {
+            count: count,
+            address: high * 256 + low,
+            kind: kind,
+            sum: sum,
+        });
     }
     Parsed::Malformed
 }
 
 // The answer to the fields of a well-formed line, for a buffer of this length.
 fn answer(reader: Reader, length: usize, f: Fields) -> Line
-    requires { ⌜ SmallFields f ⌝ }
+    requires { ⌜ Small (Parsed.Formed f) ⌝ }
     ensures { λ a. ⌜ lineOutcome a ≡ readFields reader length f ⌝ }
 {
     if f.kind == 1 {

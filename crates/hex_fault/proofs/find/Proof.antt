@@ -1,10 +1,9 @@
--- `find`: the reader refuses by the number of the refusal.
+-- `find`: the finding of the number by which the reader refuses.
 -- Assumes nothing.
 use mathlib.Core.Path.{sym, ap, _∙_}
 use lib.Seq.{length-take-le}
 use Rattle.hex_line.specs.Line.{lineOutcome}
 use Rattle.hex_fault.specs.Finding.{findingOf}
-use Rattle.hex_fault.specs.FindingLaws.{fault-back}
 use borrow.Author.Needs.{needs}
 use Rattle.hex_fault.proofs.find.Statement.{statement}
 use Rattle.hex_fault.proofs.find.Tie as tie
@@ -21,11 +20,14 @@ enum-known-fault c = search needs
 body-length-requires : tie.Need-body-length-requires
 body-length-requires c κs = search needs
 
-slice-aggregate-fault-finding : tie.Need-slice-aggregate-fault-finding
-slice-aggregate-fault-finding c = sym (length-take-le _ _ (c .before .body-length .ensures .1))
+number-requires : tie.Need-number-requires
+number-requires c κs = search needs
 
-fault-finding-requires : tie.Need-fault-finding-requires
-fault-finding-requires c κs = search needs
+slice-aggregate-refusal-finding : tie.Need-slice-aggregate-refusal-finding
+slice-aggregate-refusal-finding c = sym (length-take-le _ _ (c .before .before .body-length .ensures .1))
+
+refusal-finding-requires : tie.Need-refusal-finding-requires
+refusal-finding-requires c κs = search needs
 
 returns : tie.Need-returns
 unfolding findingOf
@@ -34,15 +36,14 @@ returns c = rw (sym (c .before .before .check-line .ensures) ∙ ap lineOutcome 
 returns-2 : tie.Need-returns-2
 unfolding findingOf
 returns-2 c =
-    let body = c .before .before in
+    let body = c .before .before .before in
     let known = body .before .before in
-    let fault = known .fault .given in
     rw (
-      sym (known .before .before .check-line .ensures) ∙ ap lineOutcome (fault .1),
+      sym (known .before .before .check-line .ensures) ∙ ap lineOutcome (known .fault .given .1),
       ← body .body-length .ensures .0,
-      fault-back (fault .0 .0),
+      ← c .before .before .number .ensures,
     )
-    (c .fault-finding .ensures)
+    (c .refusal-finding .ensures)
 
 pub find-spec : {M : Type 1} → statement M
 find-spec =
@@ -52,7 +53,8 @@ find-spec =
     enum-told
     enum-known-fault
     body-length-requires
-    slice-aggregate-fault-finding
-    fault-finding-requires
+    number-requires
+    slice-aggregate-refusal-finding
+    refusal-finding-requires
     returns
     returns-2)

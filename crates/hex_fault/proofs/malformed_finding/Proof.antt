@@ -20,11 +20,11 @@ returns-2 c = search tests
 digits-end-requires : tie.Need-digits-end-requires
 digits-end-requires c κs = search needs
 
-add-t10 : tie.Need-add-t10
-add-t10 c = search needs
+add-t8 : tie.Need-add-t8
+add-t8 c = search needs
 
-shared-slice-read-t12 : tie.Need-shared-slice-read-t12
-shared-slice-read-t12 c = search needs
+shared-slice-read-t10 : tie.Need-shared-slice-read-t10
+shared-slice-read-t10 c = search needs
 
 returns-3 : tie.Need-returns-3
 unfolding malformed
@@ -34,26 +34,12 @@ returns-4 : tie.Need-returns-4
 unfolding malformed
 returns-4 c = rw (← c .before .before .digits-end .ensures .0) (search tests)
 
-fields-of-requires : tie.Need-fields-of-requires
-fields-of-requires c κs = search needs
-
-mul-called : tie.Need-mul-called
-mul-called c = search needs
-
-add-called : tie.Need-add-called
-add-called c = search needs
+called-for-requires : tie.Need-called-for-requires
+called-for-requires c κs = search needs
 
 returns-5 : tie.Need-returns-5
 unfolding malformed
-returns-5 c =
-    let fields = c .before .before in
-    rw (← fields .before .before .before .digits-end .ensures .0, ← fields .fields-of .ensures .0) (search tests)
-
-returns-6 : tie.Need-returns-6
-unfolding malformed
-returns-6 c =
-    let fields = c .before .before in
-    rw (← fields .before .before .before .digits-end .ensures .0, ← fields .fields-of .ensures .0) (search tests)
+returns-5 c = rw (← c .before .before .before .digits-end .ensures .0, ← c .called-for .ensures) (search tests)
 
 pub malformed-finding-spec : {M : Type 1} → statement M
 malformed-finding-spec =
@@ -63,12 +49,9 @@ malformed-finding-spec =
     shared-slice-read-first
     returns-2
     digits-end-requires
-    add-t10
-    shared-slice-read-t12
+    add-t8
+    shared-slice-read-t10
     returns-3
     returns-4
-    fields-of-requires
-    mul-called
-    add-called
-    returns-5
-    returns-6)
+    called-for-requires
+    returns-5)
