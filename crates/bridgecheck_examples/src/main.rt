@@ -119,6 +119,14 @@ fn malformed_examples() {
     fault(b"faults/end_sum.hex");
 }
 
+// Lines longer than any valid one, and input without an end.
+fn long_examples() {
+    fault(b"faults/long_523.hex");
+    fault(b"faults/long_522_crlf.hex");
+    fault(b"faults/long_behind_end.hex");
+    fault(b"/dev/zero");
+}
+
 // Well-formed lines that are refused, and missing end lines.
 fn field_examples() {
     fault(b"faults/wide_sum.hex");
@@ -230,6 +238,7 @@ fn main() {
     absent_examples();
     refused_examples();
     malformed_examples();
+    long_examples();
     field_examples();
     other_examples();
     example_of_texts();

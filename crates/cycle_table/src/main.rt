@@ -2,6 +2,7 @@
 // are those of `isa`. The last line tells whether each first byte is in the one row that it belongs to.
 use base::byte_at;
 use test_support::print;
+use test_support::print_field;
 use test_support::print_number;
 
 const ROWS: u8 = 108;
@@ -15,28 +16,6 @@ const FREE: u8 = 0;
 const TAKEN: u8 = 1;
 
 const DIFFERS: u8 = 2;
-
-// The next dot from a place on, or the end.
-fn end_of(text: &[u8], from: usize) -> usize {
-    let mut at = from;
-    while at < text.len() {
-        if text[at] == b'.' {
-            return at;
-        }
-        at += 1;
-    }
-    at
-}
-
-// Prints what stands from a place on up to a dot.
-fn field(text: &[u8], at: usize) {
-    let end = end_of(text, at);
-    if end <= text.len() {
-        if at <= end {
-            print(&text[at..end]);
-        }
-    }
-}
 
 // A hexadecimal digit's value; 0 for `x`.
 fn digit(b: u8) -> u16 {
@@ -80,9 +59,9 @@ fn place(seen: &mut [u8; 256], first: u8, count: u8) {
 fn print_row(text: &[u8], n: u8, first: u8) {
     let at = WIDTH * (n as usize);
     print(b"| ");
-    field(text, at + 3);
+    print_field(text, at + 3);
     print(b" | ");
-    field(text, at);
+    print_field(text, at);
     print(b"H | ");
     print_number(isa::length_of(first) as u64);
     print(b" | ");

@@ -1,6 +1,6 @@
 -- What reading a file promises. No contract can say which bytes a file holds, so each promise names a text, what was read of the file, and says what was made of it.
 -- Assumes nothing.
-use Prim.Native.Nat.{ℕ, zero, suc, _+_, _≤_}
+use Prim.Native.Nat.{ℕ, zero, suc, _+_, _-_, _≤_}
 use mathlib.Core.Path.{_≡_}
 use mathlib.Core.List.{List, [], _∷_}
 use lib.ListN.{length}
@@ -8,7 +8,7 @@ use lib.Dec.{eqb, ltb}
 use Rattle.base.specs.Choice.{pick}
 use Rattle.base.specs.Outcome.{Outcome}
 use Rattle.hex_text.specs.declared.Stream.{Stream}
-use Rattle.hex_text.specs.Text.{textAnswer, textBuffer}
+use Rattle.hex_text.specs.Text.{firstLength, textAnswer, textBuffer}
 use Rattle.hex_text.specs.Stream.{started, feedStream, feedBuffer, finishAnswer, Leaves}
 use Rattle.judge.specs.Judgement.{printedAnswer, printedBuffer}
 
@@ -32,9 +32,27 @@ pub record Fed (s next : Stream) (n m : ℕ) (before after : List ℕ) : Type 0 
   pub buffer : after ≡ feedBuffer s text before
   pub lines : m ≡ counted n (lineEnds text)
 
--- reading stops before the end (3) only behind a refused line
-abbrev pub Settled : Stream → ℕ → Type 0
-Settled s state = state ≡ 3 → 1 ≤ s .number
+-- reading stops before the end (3) exactly behind a refused line
+pub record Settled (s : Stream) (state : ℕ) : Type 0 where
+  pub stops : state ≡ 3 → 1 ≤ s .number
+  pub goes : (state ≡ 3 → ⊥) → s .number ≡ 0
+
+-- lines were fed and counted, none of them refused; behind them a refused line, if there is one
+pub record Turned (s next : Stream) (n m state : ℕ) (before after : List ℕ) : Type 0 where
+  pub between : Stream
+  pub middle : List ℕ
+  pub fed : Fed s between n m before middle
+  pub right : between .number ≡ 0
+  pub line : List ℕ
+  pub single : firstLength line ≡ length line
+  pub none : (state ≡ 3 → ⊥) → line ≡ []
+  pub stream : next ≡ feedStream (length middle) between line
+  pub buffer : after ≡ feedBuffer between line middle
+  pub settled : Settled next state
+
+-- how many turns are left: one less where the reading goes on (0), else none
+abbrev pub turnsLeft : ℕ → ℕ → ℕ
+turnsLeft turns state = pick (eqb state 0) (turns - 1) 0
 
 -- the answer to what was read of a file; one that failed (2) counts as empty
 abbrev pub answerOf : Stream → ℕ → ℕ → Outcome (Unit {0})

@@ -7,9 +7,11 @@ use native.Mathlib.Nat.{not-suc-le-zero}
 use native.Mathlib.Omega.{arith}
 use lib.Dec.{eqb, ltb}
 use lib.ListN.{length, getD, take, drop, length-drop}
-use lib.Seq.{drop-cons, getD-drop}
+use lib.Seq.{drop-cons, getD-drop, length-take-le}
 use mathlib.Core.Bool.{Bool, true, false}
+use borrow.Author.Tests.{eqb-true}
 use Rattle.base.specs.Choice.{pick}
+use Rattle.base.specs.ChoiceLaws.{pick-has}
 use Rattle.base.specs.Outcome.{Outcome}
 use Rattle.base.specs.Outcome.Outcome.{value, refused}
 use Rattle.hex_line.specs.Line.{bufferLength}
@@ -18,6 +20,7 @@ use Rattle.hex_text.specs.Text.{firstLength, lines, linesAnswer, textAnswer, te
 use Rattle.hex_text.specs.Stream.{started, feedStream, feedBuffer, finishAnswer, Leaves}
 use Rattle.hex_text.specs.TextLaws.{first-positive, first-within}
 use Rattle.hex_text.specs.StreamLaws.{feed-refused}
+use Rattle.hex_text.specs.Refusals.{length-feedBuffer}
 use Rattle.hex_text.specs.StreamTheorems.{feed-append, feed-append-buffer, piecesStream, piecesBuffer, wholeOf, stream-reads-text}
 use Rattle.certificate.specs.declared.Verdict.{Verdict}
 use Rattle.safety.specs.Verdicts.{verdictOf}
@@ -25,7 +28,7 @@ use Rattle.report.specs.Report.{reportAnswer, reportBuffer}
 use Rattle.judge.specs.Judgement.{judgement, blankImage, blankCertificate}
 use Rattle.judge.specs.JudgementLaws.{ReadFrom, judged}
 use Rattle.judge.specs.Refusals.{printed-within}
-use Rattle.files.specs.Reading.{lineEnd, lineEnds, counted, Fed, answerOf, Reads, Judges}
+use Rattle.files.specs.Reading.{lineEnd, lineEnds, counted, Fed, Settled, Turned, turnsLeft, answerOf, Reads, Judges}
 
 counted-more : (n a b : ℕ) → counted (counted n a) b ≡ counted n (a + b)
 unfolding counted
@@ -56,6 +59,17 @@ first-ends (c ∷ d ∷ t) h = by-test (eqb c 10) refl (first-ends (d ∷ t) (om
         let k : suc (firstLength (d ∷ t)) - 1 ≡ suc (firstLength (d ∷ t) - 1) = omega (arith, first-positive d t) in
         rw (e, k, ih) (omega arith)
 
+-- a first line is one line
+first-single : (t : List ℕ) → firstLength (take (firstLength t) t) ≡ firstLength t
+unfolding firstLength
+first-single [] = refl
+first-single (c ∷ t) = by-test (eqb c 10) refl (first-single t)
+  where
+    by-test : (b : Bool) → eqb c 10 ≡ b → firstLength (take (firstLength t) t) ≡ firstLength t
+        → firstLength (take (pick b 1 (suc (firstLength t))) (c ∷ t)) ≡ pick b 1 (suc (firstLength t))
+    by-test true e ih = rw e
+    by-test false e ih = rw (e, ih)
+
 -- where a line ends that starts within a text
 pub line-bounds : (s : List ℕ) (at e : ℕ) → at < length s → e ≡ at + firstLength (drop at s) → (at < e) × (e ≤ length s)
 line-bounds s at e h q =
@@ -81,6 +95,48 @@ fed-line {n = n} t at e h q p b =
     let ends = first-ends (drop at t) (omega arith) in
     record { text = take (e - at) (drop at t); stream = p; buffer = b; lines = rw (rw (k, getD-drop at t (e - at - 1) 0, last) at ends) }
 
+-- the buffer keeps its length
+fed-length : {s next : Stream} {n k : ℕ} {m m₁ : List ℕ} → Fed s next n k m m₁ → length m₁ ≡ length m
+fed-length {s} {next} {n} {k} {m} {m₁} p = rw (p .buffer) (length-feedBuffer s (p .text) m)
+
+-- lines were fed, and none is refused
+pub turned-none : {s next : Stream} {n k : ℕ} {m m₁ : List ℕ} (state : ℕ) → (state ≡ 3 → ⊥) → next .number ≡ 0 → Fed s next n k m m₁
+    → Turned s next n k state m m₁
+unfolding feedStream feedBuffer firstLength
+turned-none {next = next} {m₁ = m₁} state h z p = record {
+  between = next;
+  middle = m₁;
+  fed = p;
+  right = z;
+  line = [];
+  single = refl;
+  none = λ _. refl;
+  stream = refl;
+  buffer = refl;
+  settled = record { stops = λ e. absurd (h e); goes = λ _. z };
+}
+
+-- and then a refused line
+pub turned-line : {s b next : Stream} {n k : ℕ} {m m₁ after : List ℕ} (t : List ℕ) (at e : ℕ) → at < length t → e ≡ at + firstLength (drop at t)
+    → Fed s b n k m m₁ → b .number ≡ 0
+    → next ≡ feedStream (length m₁) b (take (e - at) (drop at t)) → after ≡ feedBuffer b (take (e - at) (drop at t)) m₁
+    → 1 ≤ next .number → Turned s next n k 3 m after
+turned-line {b = b} {m₁ = m₁} t at e h q f z p w r =
+    let k : e - at ≡ firstLength (drop at t) = omega arith in
+    let l = length-take-le (firstLength (drop at t)) (drop at t) (first-within (drop at t)) in
+    record {
+      between = b;
+      middle = m₁;
+      fed = f;
+      right = z;
+      line = take (e - at) (drop at t);
+      single = rw k (first-single (drop at t) ∙ sym l);
+      none = λ x. absurd (x refl);
+      stream = p;
+      buffer = w;
+      settled = record { stops = λ _. r; goes = λ x. absurd (x refl) };
+    }
+
 -- one text, and another behind it
 pub fed-more : {s s₁ s₂ : Stream} {n n₁ n₂ : ℕ} {m m₁ m₂ : List ℕ} → length m₁ ≡ length m → Fed s s₁ n n₁ m m₁ → Fed s₁ s₂ n₁ n₂ m₁ m₂
     → Fed s s₂ n n₂ m m₂
@@ -91,6 +147,43 @@ fed-more {s} {s₁} {s₂} {n} {n₁} {n₂} {m} {m₁} {m₂} e p q = record {
   lines = q .lines ∙ rw (p .lines, ends-append (p .text) (q .text)) (counted-more n (lineEnds (p .text)) (lineEnds (q .text)));
 }
 
+-- the turns become fewer, and any are left only where the reading goes on
+pub turns-less : (turns state : ℕ) → 0 < turns → turnsLeft turns state < turns
+turns-less turns state h = pick-has (λ k. k < turns) (eqb state 0) _ _ (λ _. omega arith) (λ _. h)
+
+pub turns-going : (turns state : ℕ) → 0 < turnsLeft turns state → state ≡ 0
+turns-going turns state = pick-has (λ k. 0 < k → state ≡ 0) (eqb state 0) _ _ (λ e _. eqb-true state 0 e) (λ _ h. absurd (not-suc-le-zero h))
+
+-- lines before a turn
+pub turned-more : {s s₁ s₂ : Stream} {n n₁ n₂ state : ℕ} {m m₁ m₂ : List ℕ} → Fed s s₁ n n₁ m m₁ → Turned s₁ s₂ n₁ n₂ state m₁ m₂
+    → Turned s s₂ n n₂ state m m₂
+turned-more p t = record {
+  between = t .between;
+  middle = t .middle;
+  fed = fed-more (fed-length p) p (t .fed);
+  right = t .right;
+  line = t .line;
+  single = t .single;
+  none = t .none;
+  stream = t .stream;
+  buffer = t .buffer;
+  settled = t .settled;
+}
+
+-- where none is refused, lines were fed
+pub turned-fed : {s next : Stream} {n k state : ℕ} {m m₁ : List ℕ} → (state ≡ 3 → ⊥) → Turned s next n k state m m₁ → Fed s next n k m m₁
+unfolding feedStream feedBuffer
+turned-fed h t = rw (t .stream, t .buffer, t .none h) (t .fed)
+
+-- all that was fed
+turned-text : {s next : Stream} {n k state : ℕ} {m m₁ : List ℕ} (t : Turned s next n k state m m₁)
+    → (next ≡ feedStream (length m) s (t .fed .text ++ t .line)) × (m₁ ≡ feedBuffer s (t .fed .text ++ t .line) m)
+turned-text {s} {next} {n} {k} {state} {m} {m₁} t =
+    let f = t .fed in (
+      t .stream ∙ rw (fed-length f, f .stream) (sym (feed-append (length m) s (f .text) (t .line))),
+      t .buffer ∙ rw (f .stream, f .buffer) (sym (feed-append-buffer s (f .text) (t .line) m)),
+    )
+
 -- one piece is the whole file
 one-piece : (t m : List ℕ)
     → (finishAnswer (length m) (feedStream (length m) started t) ≡ textAnswer t (length m))
@@ -99,12 +192,12 @@ unfolding piecesStream piecesBuffer wholeOf
 one-piece t m = rw (append-nil t) at (stream-reads-text (t ∷ []) m)
 
 -- the end of the file
-pub reads-finish : {s : Stream} {o : Outcome (Unit {0})} {n k : ℕ} {m m₁ : List ℕ} → length m₁ ≡ length m → Fed started s n k m m₁
-    → o ≡ finishAnswer (length m₁) s → Reads o m m₁
-reads-finish {s} {o} {n} {k} {m} {m₁} e p a =
-    let w = one-piece (p .text) m in
-    let answers : o ≡ textAnswer (p .text) (length m) = a ∙ rw (e, p .stream) (w .0) in
-    record { text = p .text; answers = answers; leaves = rw (answers, p .buffer) (w .1) }
+reads-finish : {s : Stream} {o : Outcome (Unit {0})} {m m₁ : List ℕ} (t : List ℕ) → s ≡ feedStream (length m) started t → m₁ ≡ feedBuffer started t m
+    → length m₁ ≡ length m → o ≡ finishAnswer (length m₁) s → Reads o m m₁
+reads-finish {s} {o} {m} {m₁} t p q e a =
+    let w = one-piece t m in
+    let answers : o ≡ textAnswer t (length m) = a ∙ rw (e, p) (w .0) in
+    record { text = t; answers = answers; leaves = rw (answers, q) (w .1) }
 
 -- an empty file is refused
 empty-answer : (n : ℕ) → textAnswer [] n ≡ refused (pick (bufferLength n) 6 7)
@@ -124,22 +217,24 @@ reads-none {o} {m} {m₁} e a =
     rw (a ∙ g) (record { text = []; answers = sym f; leaves = tt })
 
 -- the end of the reading
-pub reads-turn : (state : ℕ) {s : Stream} {o : Outcome (Unit {0})} {n k : ℕ} {m m₁ : List ℕ} → length m₁ ≡ length m → Fed started s n k m m₁
+pub reads-turn : {s : Stream} {o : Outcome (Unit {0})} {n k state : ℕ} {m m₁ : List ℕ} → length m₁ ≡ length m → Turned started s n k state m m₁
     → o ≡ answerOf s state (length m₁) → Reads o m m₁
-reads-turn state {s} {o} {n} {k} {m} {m₁} e p a = by-test (eqb state 2) a
+reads-turn {s} {o} {n} {k} {state} {m} {m₁} e t a = by-test (eqb state 2) a
   where
-    by-test : (t : Bool) → o ≡ pick t (finishAnswer (length m₁) started) (finishAnswer (length m₁) s) → Reads o m m₁
+    by-test : (b : Bool) → o ≡ pick b (finishAnswer (length m₁) started) (finishAnswer (length m₁) s) → Reads o m m₁
     by-test true q = reads-none e q
-    by-test false q = reads-finish e p q
+    by-test false q = let w = turned-text t in reads-finish (t .fed .text ++ t .line) (w .0) (w .1) e q
 
 -- what stands behind a refused line cannot change the answer, so it is not read
-pub settled-answer : {s : Stream} {n k : ℕ} {m m₁ : List ℕ} (p : Fed started s n k m m₁) → 1 ≤ s .number → (rest : List ℕ)
-    → textAnswer (p .text ++ rest) (length m) ≡ textAnswer (p .text) (length m)
-settled-answer {s} {n} {k} {m} {m₁} p h rest =
+pub settled-answer : {s : Stream} {n k : ℕ} {m m₁ : List ℕ} (t : Turned started s n k 3 m m₁) (rest : List ℕ)
+    → textAnswer ((t .fed .text ++ t .line) ++ rest) (length m) ≡ textAnswer (t .fed .text ++ t .line) (length m)
+settled-answer {s} {n} {k} {m} {m₁} t rest =
     let size = length m in
-    let f : feedStream size started (p .text ++ rest) ≡ feedStream size started (p .text) =
-    feed-append size started (p .text) rest ∙ (rw (p .stream) at (feed-refused size s rest h)) in
-    sym (one-piece (p .text ++ rest) m .0) ∙ (ap (finishAnswer size) f ∙ one-piece (p .text) m .0)
+    let text = t .fed .text ++ t .line in
+    let w = turned-text t .0 in
+    let f : feedStream size started (text ++ rest) ≡ feedStream size started text =
+    feed-append size started text rest ∙ (rw w at (feed-refused size s rest (t .settled .stops refl))) in
+    sym (one-piece (text ++ rest) m .0) ∙ (ap (finishAnswer size) f ∙ one-piece text m .0)
 
 read-from : {o : Outcome (Unit {0})} {m m₁ : List ℕ} (p : Reads o m m₁) → ReadFrom (p .text) o m m₁
 read-from p = record { answers = p .answers; leaves = p .leaves }

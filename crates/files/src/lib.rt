@@ -6,12 +6,12 @@ ghost use Prim.Native.Nat.{_<_};
 ghost use Rattle.hex_text.specs.Text.{textOutcome};
 ghost use Rattle.hex_text.specs.Stream.{started};
 ghost use Rattle.hex_write.specs.ImageText.{writtenOutcome};
-ghost use Rattle.files.specs.Reading.{counted, lineEnd, Fed, Settled, answerOf, Reads, Judges};
+ghost use Rattle.files.specs.Reading.{counted, lineEnd, Turned, turnsLeft, answerOf, Reads, Judges};
 use hex_text::Stream;
 use hex_text::Text;
 use hex_write::Written;
 
-// What was read of a file: the stream, how many line ends, and how the reading stands.
+// What was read of a file: the stream, how many lines ended before a refused one, and how the reading stands.
 pub struct Turn {
     pub stream: Stream,
     pub lines: u32,
@@ -49,10 +49,10 @@ fn count_line(lines: u32, last: u8) -> u32
     lines
 }
 
-// Feeds a piece line by line, up to the first refused one.
+// Feeds a piece line by line, up to the first refused one, which is not counted.
 fn feed_lines(s: Stream, lines: u32, piece: &[u8], buffer: &mut [u8]) -> Turn
-    ensures { λ r. ⌜ Fed s (r .stream) lines (r .lines) (now (buffer .entry)) (now (buffer .exit)) ⌝ }
-    ensures { λ r. ⌜ Settled (r .stream) (r .state) ⌝ }
+    requires { ⌜ s .number ≡ 0 ⌝ }
+    ensures { λ r. ⌜ Turned s (r .stream) lines (r .lines) (r .state) (now (buffer .entry)) (now (buffer .exit)) ⌝ }
 {
     let mut stream = s;
     let mut count = lines;
@@ -60,20 +60,20 @@ fn feed_lines(s: Stream, lines: u32, piece: &[u8], buffer: &mut [u8]) -> Turn
     while at < piece.len() {
         let e = hex_text::line_behind(piece, at);
         let next = hex_text::feed(stream, &piece[at..e], buffer);
+        if next.number != 0 {
+            return make_turn(next, count, REFUSED);
+        }
         stream = next;
         count = count_line(count, piece[e - 1]);
         at = e;
-        if next.number != 0 {
-            return make_turn(stream, count, REFUSED);
-        }
     }
     make_turn(stream, count, GOES_ON)
 }
 
 // Reads once, and feeds what came.
 fn read_piece(fd: i32, s: Stream, lines: u32, buffer: &mut [u8]) -> Turn
-    ensures { λ r. ⌜ Fed s (r .stream) lines (r .lines) (now (buffer .entry)) (now (buffer .exit)) ⌝ }
-    ensures { λ r. ⌜ Settled (r .stream) (r .state) ⌝ }
+    requires { ⌜ s .number ≡ 0 ⌝ }
+    ensures { λ r. ⌜ Turned s (r .stream) lines (r .lines) (r .state) (now (buffer .entry)) (now (buffer .exit)) ⌝ }
 {
     let mut piece = io::buffer();
     let got = libc::read(fd, &mut piece);
@@ -90,7 +90,7 @@ fn read_piece(fd: i32, s: Stream, lines: u32, buffer: &mut [u8]) -> Turn
 // How many turns are left behind one: none once the file ended, failed or is refused.
 fn turns_left(turns: u64, state: u8) -> u64
     requires { ⌜ 0 < turns ⌝ }
-    ensures { λ r. ⌜ r < turns ⌝ }
+    ensures { λ r. ⌜ r ≡ turnsLeft turns state ⌝ }
 {
     if state == GOES_ON {
         return turns - 1;
@@ -100,8 +100,7 @@ fn turns_left(turns: u64, state: u8) -> u64
 
 // Reads an open file to its end or to its first refused line. The turns are more than any file has pieces.
 fn read_open(fd: i32, buffer: &mut [u8]) -> Turn
-    ensures { λ r. ⌜ Fed started (r .stream) 0 (r .lines) (now (buffer .entry)) (now (buffer .exit)) ⌝ }
-    ensures { λ r. ⌜ Settled (r .stream) (r .state) ⌝ }
+    ensures { λ r. ⌜ Turned started (r .stream) 0 (r .lines) (r .state) (now (buffer .entry)) (now (buffer .exit)) ⌝ }
 {
     let mut s = hex_text::start();
     let mut lines: u32 = 0;

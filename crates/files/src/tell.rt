@@ -70,7 +70,8 @@ fn print_wrong_character(errors: i32, number: usize, c: u8, right: &[u8]) {
 // More characters than any valid line has are not counted on.
 fn print_characters(errors: i32, found: usize) {
     if found > LONGEST - 2 {
-        print(errors, b"more than 521 characters");
+        print(errors, b"more than ");
+        print_count(errors, LONGEST as u64 - 2, b" character");
     } else {
         print_count(errors, found as u64, b" character");
     }
@@ -108,7 +109,8 @@ fn print_malformed(errors: i32, finding: Finding) {
             print_characters(errors, found);
             print_number(errors, right as u64);
         }
-        _ => print(errors, b"type 01, but not the end line :00000001FF"),
+        Finding::NoEndLine => print(errors, b"type 01, but not the end line :00000001FF"),
+        _ => {}
     }
 }
 
@@ -131,18 +133,6 @@ fn print_finding(errors: i32, finding: Finding) {
         Finding::BehindEnd => print(errors, b"line behind the end line"),
         _ => print_malformed(errors, finding),
     }
-}
-
-// The number of the line that the stream holds. Its LF, if it has one, is counted already.
-fn line_number(stream: Stream, lines: u32) -> u64 {
-    let held = stream.held;
-    if stream.count == 0 {
-        return lines as u64;
-    }
-    if base::byte_at(&held, stream.count - 1) == 10 {
-        return lines as u64;
-    }
-    lines as u64 + 1
 }
 
 fn tell_no_end(errors: i32, name: &[u8], lines: u64) {
@@ -171,13 +161,13 @@ fn held_finding(held: [u8; LONGEST], count: usize, length: usize, reader: Reader
 
 // The held line is refused; or it is none or right, and the end line is missing.
 fn tell_held(errors: i32, name: &[u8], stream: Stream, lines: u32, length: usize) {
-    let line = line_number(stream, lines);
     let held = stream.held;
     let reader = stream.reader;
     if stream.count == 0 {
-        tell_no_end(errors, name, line);
+        tell_no_end(errors, name, lines as u64);
         return;
     }
+    let line = lines as u64 + 1;
     match held_finding(held, stream.count, length, reader) {
         Finding::Right => tell_no_end(errors, name, line),
         found => tell_finding(errors, name, line, found),

@@ -21,13 +21,14 @@ digitsFrom (c ∷ t) = pick (ltb 15 (digitOf c)) 0 (suc (digitsFrom t))
 abbrev pub calledFor : List ℕ → ℕ
 calledFor body = countOf body * 2 + 11
 
--- all characters behind the colon are digits, but not as many as the length byte calls for
+-- not as many characters as the length byte calls for
 abbrev pub wrongCount : List ℕ → Finding
 wrongCount body = pick (ltb (length body) 3) (Finding.Cut (length body)) (Finding.Characters (length body) (calledFor body))
 
--- the first thing that is wrong in a malformed line
+-- the first thing that is wrong in a malformed line: a character within what the length byte calls for that is no digit, else the number of characters
 abbrev pub wrongDigit : List ℕ → ℕ → Finding
-wrongDigit body end = pick (ltb end (length body)) (Finding.NoDigit (end + 1) (getD body end 0)) (wrongCount body)
+wrongDigit body end =
+    pick (ltb end (length body)) (pick (ltb end (calledFor body)) (Finding.NoDigit (end + 1) (getD body end 0)) (wrongCount body)) (wrongCount body)
 
 unfoldable pub malformed : List ℕ → Finding
 malformed body =

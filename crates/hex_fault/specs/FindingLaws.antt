@@ -14,15 +14,18 @@ use Rattle.base.specs.Choice.{pick}
 use Rattle.base.specs.ChoiceLaws.{pick-has}
 use Rattle.base.specs.Outcome.{Outcome, andThen, onOutcome}
 use Rattle.base.specs.Outcome.Outcome.{value, refused}
-use Rattle.hex_line.specs.Record.{digitOf, sumOf, countOf, parseBody, bodyOf}
+use Rattle.hex_line.specs.Record.{digitOf, pairAt, added, sumOf, countOf, parseBody, bodyOf}
 use Rattle.hex_line.specs.Line.{bufferLength, readFields, readLine}
 use Rattle.hex_line.specs.declared.Reader.{Reader}
 use Rattle.hex_line.specs.declared.Fields.{Fields}
 use Rattle.hex_fault.specs.declared.Finding.{Finding}
-use Rattle.hex_fault.specs.Finding.{digitsFrom, malformed, rightSum, refusalFinding, findingOf, findingNumber}
+use Rattle.hex_fault.specs.Finding.{digitsFrom, calledFor, wrongCount, malformed, lastPair, rightSum, refusalFinding, findingOf, findingNumber}
 
 abbrev TellsOne : Finding → Type 0
 TellsOne x = findingNumber x ≡ 1
+
+count-number : (body : List ℕ) → TellsOne (wrongCount body)
+count-number body = pick-has TellsOne (ltb (length body) 3) _ _ (λ _. refl) (λ _. refl)
 
 malformed-number : (body : List ℕ) → TellsOne (malformed body)
 unfolding malformed
@@ -30,8 +33,8 @@ malformed-number body =
     let end = 1 + digitsFrom (drop 1 body) in
     pick-has TellsOne (eqb (length body) 0) _ _ (λ _. refl)
     (λ _. pick-has TellsOne (eqb (getD body 0 0) 58) _ _
-    (λ _. pick-has TellsOne (ltb end (length body)) _ _ (λ _. refl)
-    (λ _. pick-has TellsOne (ltb (length body) 3) _ _ (λ _. refl) (λ _. refl)))
+    (λ _. pick-has TellsOne (ltb end (length body)) _ _
+    (λ _. pick-has TellsOne (ltb end (calledFor body)) _ _ (λ _. refl) (λ _. count-number body)) (λ _. count-number body))
     (λ _. refl))
 
 -- a malformed line is refused by 1
@@ -79,9 +82,23 @@ finding-number reader size line = by-test (bufferLength size) (reader .ended) (p
         let one : k ≡ 1 = rw e at (parse-number (bodyOf line)) in
         rw (one, e) (malformed-number (bodyOf line))
 
--- the sum byte that is named makes the sum of the line 0 modulo 256
-pub right-sum : (others found sum : ℕ) → sum ≡ (others + found) % 256 → (others + rightSum found sum) % 256 ≡ 0
-right-sum others found sum e = rw e (omega arith)
+right-byte : (others found sum : ℕ) → sum ≡ (others + found) % 256 → (others + rightSum found sum) % 256 ≡ 0
+right-byte others found sum e = rw e (omega arith)
+
+-- a sum of pairs that are all pairs
+added-small : (a b : ℕ) → added a b < 256 → added a b ≡ (a + b) % 256
+added-small a b = pick-has (λ k. k < 256 → k ≡ (a + b) % 256) (ltb a 256) _ _
+    (λ _. pick-has (λ k. k < 256 → k ≡ (a + b) % 256) (ltb b 256) _ _ (λ _ _. refl) (λ _ h. omega (arith, h))) (λ _ h. omega (arith, h))
+
+-- the sum byte that is named makes the sum of a well-formed line 0 modulo 256: all pairs before it, and it
+pub right-sum : (body : List ℕ) → length body ≡ countOf body * 2 + 11 → sumOf body (countOf body + 5) < 256
+    → (sumOf body (countOf body + 4) + rightSum (lastPair body) (sumOf body (countOf body + 5))) % 256 ≡ 0
+unfolding lastPair sumOf
+right-sum body l h =
+    let k : countOf body + 5 ≡ suc (countOf body + 4) = omega arith in
+    let p : (countOf body + 4) * 2 + 1 ≡ length body - 2 = omega arith in
+    let e = added-small (sumOf body (countOf body + 4)) (pairAt body (length body - 2)) (rw (k, p) at h) in
+    right-byte (sumOf body (countOf body + 4)) (pairAt body (length body - 2)) (sumOf body (countOf body + 5)) (rw (k, p) e)
 
 -- one more digit; a character that is none; the end
 pub digits-more : (s : List ℕ) (i : ℕ) → i < length s → (15 < digitOf (getD s i 0) → ⊥) → digitsFrom (drop i s) ≡ 1 + digitsFrom (drop (i + 1) s)

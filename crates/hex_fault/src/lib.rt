@@ -3,7 +3,7 @@ ghost use mathlib.Core.Path.{_≡_};
 ghost use Prim.Native.Nat.{_+_, _-_, _<_, _≤_};
 ghost use lib.ListN.{length, drop};
 ghost use Rattle.hex_line.specs.Record.{bodyOf};
-ghost use Rattle.hex_fault.specs.Finding.{digitsFrom, calledFor, malformed, lastPair, badSum, fieldFinding, lineFinding, refusalFinding, findingOf};
+ghost use Rattle.hex_fault.specs.Finding.{digitsFrom, calledFor, wrongCount, malformed, lastPair, badSum, fieldFinding, lineFinding, refusalFinding, findingOf};
 use base::byte_at;
 use hex_line::Fields;
 use hex_line::Line;
@@ -60,6 +60,17 @@ fn called_for(body: &[u8]) -> usize
     hex_line::join(high, low) as usize * 2 + 11
 }
 
+// Not as many characters as the length byte calls for.
+fn count_finding(body: &[u8]) -> Finding
+    ensures { λ r. ⌜ r ≡ wrongCount (now (body .entry)) ⌝ }
+{
+    let n = body.len();
+    if n < 3 {
+        return Finding::Cut(n);
+    }
+    Finding::Characters(n, called_for(body))
+}
+
 // A line that is no colon with the pairs that its length byte calls for.
 fn malformed_finding(body: &[u8]) -> Finding
     ensures { λ r. ⌜ r ≡ malformed (now (body .entry)) ⌝ }
@@ -74,12 +85,12 @@ fn malformed_finding(body: &[u8]) -> Finding
     }
     let end = digits_end(body);
     if end < n {
-        return Finding::NoDigit(end + 1, body[end]);
+        if end < called_for(body) {
+            return Finding::NoDigit(end + 1, body[end]);
+        }
+        return count_finding(body);
     }
-    if n < 3 {
-        return Finding::Cut(n);
-    }
-    Finding::Characters(n, called_for(body))
+    count_finding(body)
 }
 
 fn less_two(n: usize) -> usize

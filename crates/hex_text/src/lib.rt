@@ -38,7 +38,7 @@ fn line_end(text: &[u8], at: usize) -> usize
     e
 }
 
-// The same for any position; one past the text's end is handed back.
+// The same for any position; a position at or past the text's end is handed back.
 pub fn line_behind(text: &[u8], at: usize) -> usize
     ensures { λ r. ⌜ r ≡ at + firstLength (drop at (now (text .entry))) ⌝ }
 {

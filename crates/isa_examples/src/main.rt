@@ -14,6 +14,7 @@ use isa::Unary;
 use roundtrip::Copied;
 use roundtrip::copy_instruction;
 use test_support::print;
+use test_support::print_field;
 use test_support::print_hex;
 use test_support::print_number;
 
@@ -30,28 +31,6 @@ fn byte(b: u8) {
 fn word(w: u16) {
     print(b" ");
     print_hex(w as u64, 4);
-}
-
-// The next dot from a place on, or the end.
-fn end_of(names: &[u8], from: usize) -> usize {
-    let mut at = from;
-    while at < names.len() {
-        if names[at] == b'.' {
-            return at;
-        }
-        at += 1;
-    }
-    at
-}
-
-// The name that starts at a place and ends before a dot.
-fn name(names: &[u8], at: usize) {
-    let end = end_of(names, at);
-    if end <= names.len() {
-        if at <= end {
-            print(&names[at..end]);
-        }
-    }
 }
 
 // A form by its number in the order of `Instruction`, and its operands in the form's order, 0 where it has none.
@@ -118,7 +97,7 @@ fn fields_of(i: Instruction) -> Fields {
 
 // The address modes of a form, by its number.
 fn modes(form: u8) {
-    name(
+    print_field(
         b"R............IR...........pop R........pop IR.......push R.......\
           push IR......inc r........r,r..........r,Ir.........R,R..........\
           R,IR.........R,IM.........ld R,R.......ld R,IR......ld IR,R......\
@@ -198,7 +177,7 @@ fn operation(i: Instruction) -> u8 {
 }
 
 fn operation_name(n: u8) {
-    name(
+    print_field(
         b".....add .adc .sub .sbc .or ..and .tcm .tm ..cp ..\
           xor .dec .rlc .inc .com .rl ..clr .rrc .sra .rr ..\
           idle.stop.di...ei...ret..iret.rcf..scf..ccf..nop..\
@@ -315,7 +294,7 @@ fn row(first: u8, second: u8) {
 
 // The name of an example: 0 to 13 encode, 14 to 22 decode.
 fn example(n: u8) {
-    name(
+    print_field(
         b"INC R16.....................ADD R16,R0..................ADD R0,R16..................\
           LD R16,#0...................JP condition 16.............LDC R0,#1000H[RR0]..........\
           LDE R0,#1000H[RR1]..........LDC #1000H[RR0],R0..........JP @01H.....................\

@@ -80,6 +80,28 @@ pub fn print(text: &[u8]) {
     io::write_all(STDOUT_FILENO, text);
 }
 
+// The next dot from a place on, or the end.
+fn end_of(text: &[u8], from: usize) -> usize {
+    let mut at = from;
+    while at < text.len() {
+        if text[at] == b'.' {
+            return at;
+        }
+        at += 1;
+    }
+    at
+}
+
+// Prints what stands from a place on up to a dot.
+pub fn print_field(text: &[u8], at: usize) {
+    let end = end_of(text, at);
+    if end <= text.len() {
+        if at <= end {
+            print(&text[at..end]);
+        }
+    }
+}
+
 // In decimal.
 pub fn print_number(n: u64) {
     io::print_decimal(STDOUT_FILENO, n);

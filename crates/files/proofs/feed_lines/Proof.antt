@@ -1,21 +1,21 @@
 -- `feed_lines`: after each turn the lines up to the position were fed, and none of them is refused.
 -- Assumes nothing.
 use denote.Ref.{now}
-use mathlib.Core.Path.{_≡_, refl, sym, ap, _∙_}
+use mathlib.Core.Path.{_≡_, refl, _∙_}
 use Prim.Native.Nat.{ℕ, _≤_, _<_, _-_, _+_}
 use mathlib.Core.List.{List}
 use native.Mathlib.Nat.{pos-of-ne-zero}
 use native.Mathlib.Omega.{arith}
-use lib.ListN.{length, drop}
-use Rattle.files.specs.Reading.{Fed}
-use Rattle.files.specs.ReadingLaws.{line-bounds, fed-none, fed-more, fed-line}
+use lib.ListN.{length, getD}
+use Rattle.files.specs.Reading.{lineEnd, counted, Fed}
+use Rattle.files.specs.ReadingLaws.{line-bounds, fed-none, fed-more, fed-line, turned-none, turned-line}
 use borrow.Author.Needs.{needs}
 use Rattle.files.proofs.feed_lines.Statement.{statement}
 use Rattle.files.proofs.feed_lines.Tie as tie
 
 abbrev Inv-loop : tie.InvT-loop
 Inv-loop lines piece buffer₀ stream₀ count₀ at₀ buffer stream count at =
-    (at ≤ length piece) × Fed stream₀ stream count₀ count buffer₀ buffer × (length buffer ≡ length buffer₀)
+    (at ≤ length piece) × Fed stream₀ stream count₀ count buffer₀ buffer × (stream .number ≡ 0) × (length buffer ≡ length buffer₀)
 
 abbrev μ-loop : tie.MeasureT-loop
 μ-loop lines piece buffer₀ stream₀ count₀ at₀ buffer stream count at = length piece - at
@@ -28,30 +28,30 @@ module _ (b : tie.After-line-behind Inv-loop μ-loop) where
   bounds : (b .before .before .loop .at < b .line-behind .result) × (b .line-behind .result ≤ length piece)
   bounds = line-bounds piece (b .before .before .loop .at) (b .line-behind .result) (b .before .loop-test .taken) (b .line-behind .ensures)
 
--- behind `count_line`: the lines up to this one were fed
-module _ (d : tie.After-count-line Inv-loop μ-loop) where
+-- behind `feed`: the lines before this one were fed, and this one
+module _ (f : tie.After-feed Inv-loop μ-loop) where
   abbrev b : tie.After-line-behind Inv-loop μ-loop
-  b = d .before .before .before .before .before .before .before
+  b = f .before .before .before
 
   abbrev start : tie.Start Inv-loop μ-loop
   start = b .before .before .before .before .before
 
   abbrev lent : List ℕ
-  lent = d .before .before .before .before .feed .last .1 .1 .0
+  lent = f .feed .last .1 .1 .0
 
   same : length lent ≡ length (now (start .args .buffer))
-  same = d .before .before .before .buffer .given ∙ b .before .before .loop .inv .2
+  same = f .feed .kept .1 .1 .0 ∙ b .before .before .loop .inv .3
 
-  fed : Fed (start .args .s) (d .before .before .before .before .feed .result) (start .args .lines) (d .count-line .result) (now (start .args .buffer)) lent
-  fed =
+  fed : {n : ℕ} → n ≡ counted (b .before .before .loop .count) (lineEnd (getD (piece b) (b .line-behind .result - 1) 0))
+      → Fed (start .args .s) (f .feed .result) (start .args .lines) n (now (start .args .buffer)) lent
+  fed {n} e =
       let l = b .before .before .loop in
-      let feed = d .before .before .before .before .feed in
       let line = fed-line {n = l .count} (piece b) (l .at) (b .line-behind .result) (b .before .loop-test .taken) (b .line-behind .ensures)
-      (feed .ensures .0) (feed .ensures .1) in
-      fed-more (l .inv .2) (l .inv .1) (rw (← d .count-line .ensures) at line)
+      (f .feed .ensures .0) (f .feed .ensures .1) in
+      fed-more (l .inv .3) (l .inv .1) (rw (← e) at line)
 
 loop-holds : tie.Need-loop-holds Inv-loop μ-loop
-loop-holds c = (search needs, fed-none, refl)
+loop-holds c = (search needs, fed-none, c .before .before .pre, refl)
 
 line-behind-requires : tie.Need-line-behind-requires Inv-loop μ-loop
 line-behind-requires c κs = search needs
@@ -68,40 +68,48 @@ part-feed-end c = search (needs, bounds c)
 feed-requires : tie.Need-feed-requires Inv-loop μ-loop
 feed-requires c κs = search needs
 
-sub-count-line : tie.Need-sub-count-line Inv-loop μ-loop
-sub-count-line c = omega (arith, bounds (c .before .before .before .before .before))
-
-shared-slice-read-count-line : tie.Need-shared-slice-read-count-line Inv-loop μ-loop
-shared-slice-read-count-line c = omega (arith, bounds (c .before .before .before .before .before .before))
-
-count-line-requires : tie.Need-count-line-requires Inv-loop μ-loop
-count-line-requires c κs = search needs
-
 make-turn-requires : tie.Need-make-turn-requires Inv-loop μ-loop
 make-turn-requires c κs = search needs
 
 same-length : tie.Need-same-length Inv-loop μ-loop
-same-length c = same (c .before .before .before)
+same-length c = same (c .before .before .before .before .before)
 
 returns : tie.Need-returns Inv-loop μ-loop
-returns c = let d = c .before .before .before in
-    rw (c .make-turn .ensures) (fed d, λ h. pos-of-ne-zero (c .before .if1 .taken))
+returns c =
+    let f = c .before .before .before .before .before in
+    let b = f .before .before .before in
+    let l = b .before .before .loop in
+    rw (c .make-turn .ensures)
+    (turned-line (piece b) (l .at) (b .line-behind .result) (b .before .loop-test .taken) (b .line-behind .ensures) (l .inv .1) (l .inv .2)
+    (f .feed .ensures .0) (f .feed .ensures .1) (pos-of-ne-zero (c .before .if1 .taken)))
+
+sub-count-line : tie.Need-sub-count-line Inv-loop μ-loop
+sub-count-line c = omega (arith, bounds (c .before .before .before .before .before .before .before))
+
+shared-slice-read-count-line : tie.Need-shared-slice-read-count-line Inv-loop μ-loop
+shared-slice-read-count-line c = omega (arith, bounds (c .before .before .before .before .before .before .before .before))
+
+count-line-requires : tie.Need-count-line-requires Inv-loop μ-loop
+count-line-requires c κs = search needs
 
 loop-less : tie.Need-loop-less Inv-loop μ-loop
 loop-less c = omega (arith, bounds (c .before .before .before .before .before .before .before .before .before))
 
 loop-again : tie.Need-loop-again Inv-loop μ-loop
-loop-again c = (bounds (c .before .before .before .before .before .before .before .before .before) .1, fed (c .before .before), same (c .before .before))
+loop-again c =
+    let f = c .before .before .before .before .before .before in
+    (bounds (c .before .before .before .before .before .before .before .before .before) .1, fed f (c .count-line .ensures), c .before .before .if1 .left, same f)
 
 make-turn-requires-2 : tie.Need-make-turn-requires-2 Inv-loop μ-loop
 make-turn-requires-2 c κs = search needs
 
 same-length-2 : tie.Need-same-length-2 Inv-loop μ-loop
-same-length-2 c = c .before .before .loop .inv .2
+same-length-2 c = c .before .before .loop .inv .3
 
 returns-2 : tie.Need-returns-2 Inv-loop μ-loop
-returns-2 c = let l = c .before .before .loop in
-    rw (c .make-turn2 .ensures) (l .inv .1, λ h. omega (arith, h))
+returns-2 c =
+    let l = c .before .before .loop in
+    rw (c .make-turn2 .ensures) (turned-none 0 (λ h. omega (arith, h)) (l .inv .2) (l .inv .1))
 
 pub feed-lines-spec : {M : Type 1} → statement M
 feed-lines-spec =
@@ -115,12 +123,12 @@ feed-lines-spec =
     part-feed-start
     part-feed-end
     feed-requires
-    sub-count-line
-    shared-slice-read-count-line
-    count-line-requires
     make-turn-requires
     same-length
     returns
+    sub-count-line
+    shared-slice-read-count-line
+    count-line-requires
     loop-less
     loop-again
     make-turn-requires-2

@@ -39,7 +39,7 @@ same-length c = search needs
 returns-2 : tie.Need-returns-2
 returns-2 c =
     let turn = c .before .before .before .before .before .read-open in
-    reads-turn (turn .result .state) (turn .kept .1 .0) (turn .ensures .0) (c .answer-of .ensures)
+    reads-turn (turn .kept .1 .0) (turn .ensures) (c .answer-of .ensures)
 
 pub read-file-spec : {M : Type 1} → statement M
 read-file-spec =

@@ -1,7 +1,7 @@
 -- `read_piece`: what came was fed.
 -- Assumes nothing.
 use native.Mathlib.Omega.{arith}
-use Rattle.files.specs.ReadingLaws.{fed-none}
+use Rattle.files.specs.ReadingLaws.{fed-none, turned-none}
 use borrow.Author.Needs.{needs}
 use Rattle.files.proofs.read_piece.Statement.{statement}
 use Rattle.files.proofs.read_piece.Tie as tie
@@ -19,13 +19,13 @@ make-turn-requires : tie.Need-make-turn-requires
 make-turn-requires c κs = search needs
 
 returns : tie.Need-returns
-returns c = rw (c .make-turn .ensures) (fed-none, λ h. omega (arith, h))
+returns c = rw (c .make-turn .ensures) (turned-none 2 (λ h. omega (arith, h)) (c .before .before .before .before .before .before .before .pre) fed-none)
 
 make-turn-requires-2 : tie.Need-make-turn-requires-2
 make-turn-requires-2 c κs = search needs
 
 returns-2 : tie.Need-returns-2
-returns-2 c = rw (c .make-turn2 .ensures) (fed-none, λ h. omega (arith, h))
+returns-2 c = rw (c .make-turn2 .ensures) (turned-none 1 (λ h. omega (arith, h)) (c .before .before .before .before .before .before .before .before .pre) fed-none)
 
 slice-aggregate-count : tie.Need-slice-aggregate-count
 slice-aggregate-count c = search needs

@@ -1,16 +1,16 @@
--- The search stays within the names: the measure is what is left of them.
+-- The search stays within the text: the measure is what is left of it.
 -- Assumes nothing.
 use Prim.Native.Nat.{_-_}
 use lib.ListN.{length}
 use borrow.Author.Needs.{needs}
-use Rattle.isa_examples.proofs.end_of.Statement.{statement}
-use Rattle.isa_examples.proofs.end_of.Tie as tie
+use Rattle.test_support.proofs.end_of.Statement.{statement}
+use Rattle.test_support.proofs.end_of.Tie as tie
 
 abbrev Inv-loop : tie.InvT-loop
-Inv-loop names from at₀ at = Unit {0}
+Inv-loop text from at₀ at = Unit {0}
 
 abbrev μ-loop : tie.MeasureT-loop
-μ-loop names from at₀ at = length names - at
+μ-loop text from at₀ at = length text - at
 
 loop-holds : tie.Need-loop-holds Inv-loop μ-loop
 loop-holds c = search needs
