@@ -2,3 +2,8 @@ pub mod Record
 pub mod Line
 pub mod LineLaws
 pub mod Refusals
+pub mod Sum
+pub mod SumLaws
+pub mod Pairs
+pub mod PairLaws
+pub mod ParseLaws

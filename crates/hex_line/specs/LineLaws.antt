@@ -25,10 +25,6 @@ pub sumOf-more : (l : List ℕ) (i : ℕ) → sumOf l (i + 1) ≡ added (sumOf l
 unfolding sumOf
 sumOf-more l i = rw (add-one i)
 
-pub dataOf-more : (l : List ℕ) (i : ℕ) → dataOf l (i + 1) ≡ dataOf l i ++ (pairAt l (i * 2 + 9) % 256 ∷ [])
-unfolding dataOf
-dataOf-more l i = rw (add-one i)
-
 pub length-dataOf : (l : List ℕ) (n : ℕ) → length (dataOf l n) ≡ n
 unfolding dataOf
 length-dataOf l zero = refl

@@ -3,9 +3,10 @@ ghost use mathlib.Core.Path.{_≡_};
 ghost use Prim.Native.Nat.{_+_, _*_, _%_, _<_, _≤_};
 ghost use mathlib.Core.List.{_++_};
 ghost use lib.ListN.{length, drop};
-ghost use Rattle.hex_line.specs.Record.{digitOf, joined, pairAt, added, sumOf, dataOf, countOf, addressOf, parseBody, parsedOutcome, Small, bodyLength, bodyOf};
-ghost use Rattle.hex_line.specs.Line.{bufferLength, begun, faultNumber, lineOutcome, readFields, readLine, stored, lineBuffer};
-use base::byte_at;
+ghost use Rattle.hex_line.specs.Record.{digitOf, joined, sumOf, parseBody, parsedOutcome, Small, bodyLength, bodyOf};
+ghost use Rattle.hex_line.specs.Sum.{AllPairs, totalOf};
+ghost use Rattle.hex_line.specs.Pairs.{Kept, countIn, addressIn, fieldsIn, storedFrom, KeptUnless};
+ghost use Rattle.hex_line.specs.Line.{bufferLength, begun, faultNumber, lineOutcome, readFields, readLine, lineBuffer};
 
 // Where the last record ended, and whether the end line was read.
 pub struct Reader {
@@ -79,29 +80,271 @@ pub fn is_buffer_length(n: usize) -> bool
     base::is_certificate_length(n)
 }
 
-// The value of a hexadecimal digit of either letter case, 16 of another character.
+// The value of each character as a hexadecimal digit of either letter case, 16 of one that is none.
+const DIGITS: [u8; 256] = [
+    16, // 00H
+    16,
+    16,
+    16,
+    16,
+    16,
+    16,
+    16,
+    16,
+    16,
+    16,
+    16,
+    16,
+    16,
+    16,
+    16,
+    16, // 10H
+    16,
+    16,
+    16,
+    16,
+    16,
+    16,
+    16,
+    16,
+    16,
+    16,
+    16,
+    16,
+    16,
+    16,
+    16,
+    16, // 20H
+    16,
+    16,
+    16,
+    16,
+    16,
+    16,
+    16,
+    16,
+    16,
+    16,
+    16,
+    16,
+    16,
+    16,
+    16,
+    0, // 30H
+    1,
+    2,
+    3,
+    4,
+    5,
+    6,
+    7,
+    8,
+    9,
+    16,
+    16,
+    16,
+    16,
+    16,
+    16,
+    16, // 40H
+    10, // 41H: A
+    11,
+    12,
+    13,
+    14,
+    15,
+    16,
+    16,
+    16,
+    16,
+    16,
+    16,
+    16,
+    16,
+    16,
+    16, // 50H
+    16,
+    16,
+    16,
+    16,
+    16,
+    16,
+    16,
+    16,
+    16,
+    16,
+    16,
+    16,
+    16,
+    16,
+    16,
+    16, // 60H
+    10, // 61H: a
+    11,
+    12,
+    13,
+    14,
+    15,
+    16,
+    16,
+    16,
+    16,
+    16,
+    16,
+    16,
+    16,
+    16,
+    16, // 70H
+    16,
+    16,
+    16,
+    16,
+    16,
+    16,
+    16,
+    16,
+    16,
+    16,
+    16,
+    16,
+    16,
+    16,
+    16,
+    16, // 80H
+    16,
+    16,
+    16,
+    16,
+    16,
+    16,
+    16,
+    16,
+    16,
+    16,
+    16,
+    16,
+    16,
+    16,
+    16,
+    16, // 90H
+    16,
+    16,
+    16,
+    16,
+    16,
+    16,
+    16,
+    16,
+    16,
+    16,
+    16,
+    16,
+    16,
+    16,
+    16,
+    16, // A0H
+    16,
+    16,
+    16,
+    16,
+    16,
+    16,
+    16,
+    16,
+    16,
+    16,
+    16,
+    16,
+    16,
+    16,
+    16,
+    16, // B0H
+    16,
+    16,
+    16,
+    16,
+    16,
+    16,
+    16,
+    16,
+    16,
+    16,
+    16,
+    16,
+    16,
+    16,
+    16,
+    16, // C0H
+    16,
+    16,
+    16,
+    16,
+    16,
+    16,
+    16,
+    16,
+    16,
+    16,
+    16,
+    16,
+    16,
+    16,
+    16,
+    16, // D0H
+    16,
+    16,
+    16,
+    16,
+    16,
+    16,
+    16,
+    16,
+    16,
+    16,
+    16,
+    16,
+    16,
+    16,
+    16,
+    16, // E0H
+    16,
+    16,
+    16,
+    16,
+    16,
+    16,
+    16,
+    16,
+    16,
+    16,
+    16,
+    16,
+    16,
+    16,
+    16,
+    16, // F0H
+    16,
+    16,
+    16,
+    16,
+    16,
+    16,
+    16,
+    16,
+    16,
+    16,
+    16,
+    16,
+    16,
+    16,
+    16,
+];
+
+// The value of a character as a digit, 16 of one that is none.
 pub fn digit(c: u8) -> u16
     ensures { λ r. ⌜ r ≡ digitOf c ⌝ }
 {
-    if c < 48 {
-        return 16;
-    }
-    if c < 58 {
-        return (c - 48) as u16;
-    }
-    if c < 65 {
-        return 16;
-    }
-    if c < 71 {
-        return (c - 55) as u16;
-    }
-    if c < 97 {
-        return 16;
-    }
-    if c < 103 {
-        return (c - 87) as u16;
-    }
-    16
+    DIGITS[c as usize] as u16
 }
 
 // The value of two digits, 256 where one is none.
@@ -117,66 +360,85 @@ pub fn join(high: u16, low: u16) -> u16
     256
 }
 
-// The value of the two digits at a position, 256 where one is none.
-fn pair_at(s: &[u8], k: usize) -> u16
-    requires { ⌜ k < 65536 ⌝ }
-    ensures { λ r. ⌜ (r ≡ pairAt (now (s .entry)) k) × (r < 257) ⌝ }
-{
-    join(digit(byte_at(s, k)), digit(byte_at(s, k + 1)))
-}
+// The most pairs that a line has: length byte, address, type, 255 data bytes, sum.
+const PAIRS: usize = 260;
 
-fn add(a: u16, b: u16) -> u16
-    requires { ⌜ (a < 257) × (b < 257) ⌝ }
-    ensures { λ r. ⌜ (r ≡ added a b) × (r < 257) ⌝ }
+// Reads the first n pairs behind the colon in the order of the text, keeps each as a byte and adds it to the sum modulo 256. The answer is the sum;
+// 256 where a pair is none. The second clause is the law of the sum so far, for any number of pairs.
+fn gather(body: &[u8], n: usize, pairs: &mut [u8]) -> u16
+    requires { ⌜ (n * 2 < length (now body)) × (n ≤ length (now pairs)) ⌝ }
+    ensures { λ r. ⌜ r ≡ sumOf (now (body .entry)) n ⌝ }
+    ensures { λ r. ⌜ (AllPairs (now (body .entry)) n → r ≡ totalOf (now (body .entry)) n % 256) ⌝ }
+    ensures { λ r. ⌜ (r < 256 → Kept (now (body .entry)) n (now (pairs .exit))) ⌝ }
 {
-    if a < 256 {
-        if b < 256 {
-            return (a + b) % 256;
-        }
-        return 256;
-    }
-    256
-}
-
-// The sum modulo 256 of the first n pairs behind the colon, 256 where one is none.
-fn sum_of(body: &[u8], n: usize) -> u16
-    requires { ⌜ n < 300 ⌝ }
-    ensures { λ r. ⌜ (r ≡ sumOf (now (body .entry)) n) × (r < 257) ⌝ }
-{
+    let digits = DIGITS;
     let mut sum: u16 = 0;
     let mut i: usize = 0;
     while i < n {
-        let p = pair_at(body, i * 2 + 1);
-        sum = add(sum, p);
+        let high = digits[body[i * 2 + 1] as usize];
+        if high > 15 {
+            return 256;
+        }
+        let low = digits[body[i * 2 + 2] as usize];
+        if low > 15 {
+            return 256;
+        }
+        let pair = high * 16 + low;
+        pairs[i] = pair;
+        sum = (sum + pair as u16) % 256;
         i += 1;
     }
     sum
+}
+
+// The fields in the n pairs of a line, if its length byte calls for so many.
+fn fields_in(pairs: &[u8], n: usize, sum: u16) -> Parsed
+    requires { ⌜ (3 < length (now pairs)) × (sum < 256) ⌝ }
+    ensures { λ r. ⌜ (parsedOutcome r ≡ fieldsIn (now (pairs .entry)) n sum) × Small r ⌝ }
+{
+    let count = pairs[0] as usize;
+    if count + 5 != n {
+        return Parsed::Malformed;
+    }
+    let high = pairs[1] as usize;
+    let low = pairs[2] as usize;
+    Parsed::Formed(Fields {
+        count: count,
+        address: high * 256 + low,
+        kind: pairs[3] as u16,
+        sum: sum,
+    })
+}
+
+// The fields of a line without its end, if it is a colon and the pairs that its length byte calls for. Keeps its pairs.
+fn parse_pairs(body: &[u8], pairs: &mut [u8]) -> Parsed
+    requires { ⌜ length (now pairs) ≡ 260 ⌝ }
+    ensures { λ r. ⌜ (parsedOutcome r ≡ parseBody (now (body .entry))) × Small r ⌝ }
+    ensures { λ r. ⌜ KeptUnless (parsedOutcome r) (now (body .entry)) (now (pairs .exit)) ⌝ }
+{
+    let n = body.len() / 2;
+    if body.len() != n * 2 + 1 {
+        return Parsed::Malformed;
+    }
+    if n > PAIRS {
+        return Parsed::Malformed;
+    }
+    if body[0] != 58 {
+        return Parsed::Malformed;
+    }
+    let sum = gather(body, n, pairs);
+    if sum > 255 {
+        return Parsed::Malformed;
+    }
+    fields_in(pairs, n, sum)
 }
 
 // The fields of a line without its end, if it is a colon and the pairs that its length byte calls for.
 pub fn parse(body: &[u8]) -> Parsed
     ensures { λ r. ⌜ (parsedOutcome r ≡ parseBody (now (body .entry))) × Small r ⌝ }
 {
-    if byte_at(body, 0) != 58 {
-        return Parsed::Malformed;
-    }
-    let count = pair_at(body, 1) as usize;
-    if body.len() != count * 2 + 11 {
-        return Parsed::Malformed;
-    }
-    let sum = sum_of(body, count + 5);
-    if sum < 256 {
-        let high = pair_at(body, 3) as usize;
-        let low = pair_at(body, 5) as usize;
-        let kind = pair_at(body, 7);
-        return Parsed::Formed(Fields {
-            count: count,
-            address: high * 256 + low,
-            kind: kind,
-            sum: sum,
-        });
-    }
-    Parsed::Malformed
+    let mut pairs = [0u8; PAIRS];
+    parse_pairs(body, &mut pairs)
 }
 
 // The answer to the fields of a well-formed line, for a buffer of this length.
@@ -237,50 +499,57 @@ pub fn body_length(line: &[u8]) -> usize
     n - 1
 }
 
-// The answer to a line, with or without its LF or CR LF, for a buffer of this length. It writes nothing.
-pub fn check_line(line: &[u8], length: usize, reader: Reader) -> Line
-    ensures { λ a. ⌜ lineOutcome a ≡ readLine reader length (now (line .entry)) ⌝ }
+// The answer to a line, with or without its LF or CR LF, for a buffer of this length. Keeps the pairs of a line that is read.
+fn decide(line: &[u8], size: usize, reader: Reader, pairs: &mut [u8]) -> Line
+    requires { ⌜ length (now pairs) ≡ 260 ⌝ }
+    ensures { λ a. ⌜ lineOutcome a ≡ readLine reader size (now (line .entry)) ⌝ }
+    ensures { λ a. ⌜ KeptUnless (lineOutcome a) (bodyOf (now (line .entry))) (now (pairs .exit)) ⌝ }
 {
-    if is_buffer_length(length) {
+    if is_buffer_length(size) {
         let ended = reader.ended;
         if ended {
             return Line::Refused(Fault::AfterEnd);
         }
         let n = body_length(line);
         let body = &line[..n];
-        return match parse(body) {
-            Parsed::Formed(f) => answer(reader, length, f),
+        return match parse_pairs(body, pairs) {
+            Parsed::Formed(f) => answer(reader, size, f),
             Parsed::Malformed => Line::Refused(Fault::Malformed),
         };
     }
     Line::Refused(Fault::WrongLength)
 }
 
-// Writes the first n data bytes of a line to the front of a part of the buffer.
-fn fill(part: &mut [u8], body: &[u8], n: usize)
-    requires { ⌜ (n < 257) × (n ≤ length (now part)) ⌝ }
-    ensures { λ r. ⌜ now (part .exit) ≡ dataOf (now (body .entry)) n ++ drop n (now (part .entry)) ⌝ }
+// The answer to a line, with or without its LF or CR LF, for a buffer of this length. It writes nothing.
+pub fn check_line(line: &[u8], length: usize, reader: Reader) -> Line
+    ensures { λ a. ⌜ lineOutcome a ≡ readLine reader length (now (line .entry)) ⌝ }
 {
-    let mut i: usize = 0;
-    while i < n {
-        let p = pair_at(body, i * 2 + 9);
-        part[i] = (p % 256) as u8;
-        i += 1;
+    let mut pairs = [0u8; PAIRS];
+    decide(line, length, reader, &mut pairs)
+}
+
+// Writes bytes to the front of a part of a buffer.
+fn fill(part: &mut [u8], bytes: &[u8])
+    requires { ⌜ length (now bytes) ≤ length (now part) ⌝ }
+    ensures { λ r. ⌜ now (part .exit) ≡ now (bytes .entry) ++ drop (length (now (bytes .entry))) (now (part .entry)) ⌝ }
+{
+    let mut k: usize = 0;
+    while k < bytes.len() {
+        part[k] = bytes[k];
+        k += 1;
     }
 }
 
-// Writes the data of a line straight into the part of the buffer that starts at the record's address.
-fn store(line: &[u8], buffer: &mut [u8])
-    requires { ⌜ addressOf (bodyOf (now line)) + countOf (bodyOf (now line)) ≤ length (now buffer) ⌝ }
-    ensures { λ r. ⌜ now (buffer .exit) ≡ stored (bodyOf (now (line .entry))) (now (buffer .entry)) ⌝ }
+// Writes the data of a line, from its pairs, straight into the part of the buffer that starts at the record's address.
+fn store(pairs: &[u8], buffer: &mut [u8])
+    requires { ⌜ (length (now pairs) ≡ 260) × (addressIn (now pairs) + countIn (now pairs) ≤ length (now buffer)) ⌝ }
+    ensures { λ r. ⌜ now (buffer .exit) ≡ storedFrom (now (pairs .entry)) (now (buffer .entry)) ⌝ }
 {
-    let n = body_length(line);
-    let body = &line[..n];
-    let count = pair_at(body, 1) as usize;
-    let high = pair_at(body, 3) as usize;
-    let low = pair_at(body, 5) as usize;
+    let count = pairs[0] as usize;
+    let high = pairs[1] as usize;
+    let low = pairs[2] as usize;
     let at = high * 256 + low;
-    fill(&mut buffer[at..], body, count);
+    fill(&mut buffer[at..], &pairs[4..count + 4]);
 }
 
 // Reads a line, with or without its LF or CR LF. A refusal leaves the buffer as it was.
@@ -289,9 +558,10 @@ pub fn read_line(line: &[u8], buffer: &mut [u8], reader: Reader) -> Line
     ensures { λ a. ⌜ now (buffer .exit) ≡ lineBuffer reader (now (line .entry)) (now (buffer .entry)) ⌝ }
 {
     let length = buffer.len();
-    match check_line(line, length, reader) {
+    let mut pairs = [0u8; PAIRS];
+    match decide(line, length, reader, &mut pairs) {
         Line::Read(next) => {
-            store(line, buffer);
+            store(&pairs, buffer);
             Line::Read(next)
         }
         Line::Refused(fault) => Line::Refused(fault),

@@ -2,6 +2,8 @@
 ghost use Prim.Native.Nat.{_<_, _≤_};
 ghost use lib.ListN.{length};
 use base::IMAGE_LENGTH;
+use hex_line::Line;
+use hex_line::Reader;
 use hex_text::Text;
 use hex_write::TEXT_LENGTH;
 use hex_write::Written;
@@ -70,6 +72,45 @@ fn example_without_end() {
     } else {
         print(b" image changed\n");
     }
+}
+
+fn line_number(answer: Line) -> u8 {
+    match answer {
+        Line::Read(_) => 0,
+        Line::Refused(fault) => hex_line::number(fault),
+    }
+}
+
+// Prints the answer to a line behind a record that ended at 0102H, whether the image is as it was, and the line.
+fn line_example(line: &[u8]) {
+    let kept = [255u8; IMAGE_LENGTH];
+    let mut image = [255u8; IMAGE_LENGTH];
+    let reader = Reader {
+        next: 258,
+        ended: false,
+    };
+    print_number(wide(line_number(hex_line::read_line(line, &mut image, reader))));
+    if check::same(&image, &kept) {
+        print(b" unchanged ");
+    } else {
+        print(b" written ");
+    }
+    print(line);
+    print(b"\n");
+}
+
+// The line that is right, then lines with two faults: the number is that of the first fault in the order of the numbers, wherever it stands in the line.
+fn two_faults() {
+    line_example(b":020102008FFF6D");
+    line_example(b":020102008FFG6E"); // no digit, sum
+    line_example(b":020102008FFF6G"); // no digit, in the sum
+    line_example(b":020102008FFF6EG"); // no digit behind a wrong sum
+    line_example(b":030102008FFF6D"); // length, sum
+    line_example(b":00000001FE"); // end line, sum
+    line_example(b":020102028FFF6D"); // type, sum
+    line_example(b":020100008FFF6D"); // overlap, sum
+    line_example(b":020FFF000102EE"); // past the end, sum
+    line_example(b":020100028FFF6D"); // type, overlap
 }
 
 // Prints the answers for an image of 4095 bytes.
@@ -183,6 +224,7 @@ fn main() {
     example(b"");
     example_without_end();
     example_of_length();
+    two_faults();
     write_and_read();
     run_cases();
 }

@@ -1,38 +1,31 @@
 -- `store`: the part from the address on comes back with the data in front.
 -- Assumes nothing.
 use denote.Ref.{now}
-use mathlib.Core.Path.{sym}
+use mathlib.Core.Path.{_≡_}
 use Prim.Native.Nat.{_+_, _-_, _*_, _≤_}
 use native.Mathlib.Omega.{arith}
-use lib.ListN.{length, take, drop, length-take, length-drop}
+use lib.ListN.{length, getD, take, drop, length-drop}
 use lib.Seq.{length-take-le}
 use Rattle.base.specs.Lists.{part-back}
-use Rattle.hex_line.specs.Record.{addressOf, countOf, dataOf}
-use Rattle.hex_line.specs.Line.{stored}
+use Rattle.hex_line.specs.Pairs.{countIn, addressIn}
 use borrow.Author.Needs.{needs}
 use Rattle.hex_line.proofs.store.Statement.{statement}
 use Rattle.hex_line.proofs.store.Tie as tie
 
-body-length-requires : tie.Need-body-length-requires
-body-length-requires c κs = search needs
-
-slice-aggregate-body : tie.Need-slice-aggregate-body
-slice-aggregate-body c = sym (length-take-le _ _ (c .before .body-length .ensures .1))
-
-pair-at-requires : tie.Need-pair-at-requires
-pair-at-requires c κs = search needs
+shared-slice-read-count : tie.Need-shared-slice-read-count
+shared-slice-read-count c = search needs
 
 cast-count : tie.Need-cast-count
 cast-count c = search needs
 
-pair-at-requires-2 : tie.Need-pair-at-requires-2
-pair-at-requires-2 c κs = search needs
+shared-slice-read-high : tie.Need-shared-slice-read-high
+shared-slice-read-high c = search needs
 
 cast-high : tie.Need-cast-high
 cast-high c = search needs
 
-pair-at-requires-3 : tie.Need-pair-at-requires-3
-pair-at-requires-3 c κs = search needs
+shared-slice-read-low : tie.Need-shared-slice-read-low
+shared-slice-read-low c = search needs
 
 cast-low : tie.Need-cast-low
 cast-low c = search needs
@@ -44,79 +37,61 @@ add-at : tie.Need-add-at
 add-at c = search needs
 
 sub-fill : tie.Need-sub-fill
-unfolding addressOf countOf
-sub-fill c =
-    let n = c .before .before in
-    let body = n .before .before in
-    omega (
-      arith,
-      rw (← body .body-length .ensures .0, ← n .pair-at .ensures .0, ← c .before .pair-at2 .ensures .0, ← c .pair-at3 .ensures .0)
-          at (body .before .before .before .pre),
-    )
+sub-fill c = search needs
 
 part-fill-start : tie.Need-part-fill-start
-part-fill-start c = sub-fill c
+part-fill-start c = search needs
 
 part-fill-end : tie.Need-part-fill-end
 part-fill-end c = search needs
 
+add-fill : tie.Need-add-fill
+add-fill c = search needs
+
+sub-fill-2 : tie.Need-sub-fill-2
+sub-fill-2 c = search needs
+
+part-fill-start-2 : tie.Need-part-fill-start-2
+part-fill-start-2 c = search needs
+
+part-fill-end-2 : tie.Need-part-fill-end-2
+part-fill-end-2 c = omega (arith, c .before .shared-slice-known4 .given 0)
+
 fill-requires : tie.Need-fill-requires
-unfolding addressOf countOf
-fill-requires c κs =
-    let low = c .before in
-    let high = low .before in
-    let n = high .before in
-    let body = n .before .before in
-    let start = body .before .before .before in
-    let buffer = now (start .args .buffer) in
-    let count = n .pair-at .result in
-    let at₀ = high .pair-at2 .result * 256 + low .pair-at3 .result in
-    let h : at₀ + count ≤ length buffer =
-    rw (← body .body-length .ensures .0, ← n .pair-at .ensures .0, ← high .pair-at2 .ensures .0, ← low .pair-at3 .ensures .0)
-    at (start .pre) in
-    let p : count ≤ length (take (length buffer - at₀) (drop at₀ buffer)) = simp (length-take, length-drop) (omega arith) in
-    (search needs, p)
+fill-requires c κs = search needs
 
 same-length : tie.Need-same-length
 same-length c = search needs
 
 returns : tie.Need-returns
-unfolding stored addressOf countOf
 returns c =
-    let low = c .before .before .before .before in
-    let high = low .before in
-    let n = high .before in
-    let text = n .before .before in
-    let a = text .before .before .before .args in
-    let body = take (text .body-length .result) (now (a .line)) in
-    let count = n .pair-at .result in
-    let at₀ = high .pair-at2 .result * 256 + low .pair-at3 .result in
-    rw (
-      ← text .body-length .ensures .0,
-      ← n .pair-at .ensures .0,
-      ← high .pair-at2 .ensures .0,
-      ← low .pair-at3 .ensures .0,
-      c .before .before .fill .ensures,
-    )
-    (part-back (now (a .buffer)) (dataOf body count) at₀ count)
+    let read = c .before .before .before .before in
+    let a = read .before .before .before .before .before .before .args in
+    let pairs = now (a .pairs) in
+    let n = countIn pairs in
+    let e : n + 4 - 4 ≡ n = omega arith in
+    let size : length (take n (drop 4 pairs)) ≡ n = length-take-le n (drop 4 pairs) (omega (arith, length-drop 4 pairs, read .before .shared-slice-known4 .given 0)) in
+    rw (c .before .before .fill .ensures, e, size) (part-back (now (a .buffer)) (take n (drop 4 pairs)) (addressIn pairs) n)
 
 pub store-spec : {M : Type 1} → statement M
 store-spec =
     tie.close
     (tie.spec
-    body-length-requires
-    slice-aggregate-body
-    pair-at-requires
+    shared-slice-read-count
     cast-count
-    pair-at-requires-2
+    shared-slice-read-high
     cast-high
-    pair-at-requires-3
+    shared-slice-read-low
     cast-low
     mul-at
     add-at
     sub-fill
     part-fill-start
     part-fill-end
+    add-fill
+    sub-fill-2
+    part-fill-start-2
+    part-fill-end-2
     fill-requires
     same-length
     returns)
