@@ -71,12 +71,8 @@ fn same(a: &[u8; IMAGE_LENGTH], b: &[u8; IMAGE_LENGTH]) -> bool {
     check::same(a, b)
 }
 
-fn count_of(what: u64) -> u64 {
-    match what {
-        6 => 20000,
-        _ => 2000,
-    }
-}
+// How often a text is read or written.
+const TURNS: u64 = 20000;
 
 fn tell(answer: u64, same: bool) {
     print(b" ");
@@ -88,12 +84,12 @@ fn tell(answer: u64, same: bool) {
     }
 }
 
-// 4 reads a whole text 2,000 times, 5 reads it by feed and finish as often, 6 writes it 20,000 times.
+// 4 reads a whole text, 5 reads it by feed and finish, 6 writes it, each 20,000 times.
 pub fn work(what: u64) {
     let image = image();
     let mut text = [0u8; TEXT_LENGTH];
     let mut buffer = [0u8; IMAGE_LENGTH];
     turn(6, &image, &mut text, &mut buffer);
-    let answer = turns(what, &image, &mut text, &mut buffer, count_of(what));
+    let answer = turns(what, &image, &mut text, &mut buffer, TURNS);
     tell(answer, (what == 6) | same(&image, &buffer));
 }
