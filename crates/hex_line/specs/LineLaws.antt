@@ -31,6 +31,12 @@ length-dataOf l zero = refl
 length-dataOf l (suc n) =
     length-append (dataOf l n) (pairAt l (n * 2 + 9) % 256 ∷ []) ∙ (ap (λ (k : ℕ). k + 1) (length-dataOf l n) ∙ add-one n)
 
+-- the answer by the fields, where neither 7 nor 6 stands before it
+pub read-parsed : (reader : Reader) (size : ℕ) (l : List ℕ) (o : Outcome Fields) → bufferLength size ≡ true → reader .ended ≡ false
+    → parseBody (bodyOf l) ≡ o → andThen o (readFields reader size) ≡ readLine reader size l
+unfolding readLine
+read-parsed reader size l o b d e = rw (b, d, e)
+
 -- a record that is read ends within the buffer, the end line at address 0; a refusal has a number of 01's table for HEX
 abbrev pub Within : ℕ → ℕ → Outcome Reader → Type 0
 Within end size (value next) = (end ≤ size) × (next .ended ≡ true → end ≡ 0)

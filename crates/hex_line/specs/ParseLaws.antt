@@ -11,7 +11,7 @@ use borrow.Author.Tests.{eqb-true, eqb-false, eq-eqb, ne-eqb, lt-ltb, le-ltb}
 use Rattle.base.specs.ChoiceLaws.{pick-has}
 use Rattle.base.specs.Formula.{same?, le?}
 use Rattle.base.specs.Outcome.{Outcome}
-use Rattle.base.specs.Outcome.Outcome.{value, refused}
+use Rattle.base.specs.Outcome.Outcome.{refused}
 use Rattle.hex_line.specs.declared.Fields.{Fields}
 use Rattle.hex_line.specs.Record.{pairAt, sumOf, countOf, addressOf, fieldsOf, parseBody}
 use Rattle.hex_line.specs.Line.{stored}

@@ -58,7 +58,7 @@ unfolding pairAt
 pair-small l k = joined-small (digitOf (getD l k 0)) (digitOf (getD l (k + 1) 0))
 
 -- where there is a sum, all pairs are two digits
-pub all-pairs : (l : List ℕ) (n : ℕ) → sumOf l n < 256 → AllPairs l n
+all-pairs : (l : List ℕ) (n : ℕ) → sumOf l n < 256 → AllPairs l n
 all-pairs l n h i b =
     ⊎-elim
     (λ (d : 256 ≤ pairAt l (i * 2 + 1)).

@@ -1,10 +1,14 @@
 -- `decide`: the length, then the end line, then the fields, as the definition tests them.
 -- Assumes nothing.
-use mathlib.Core.Path.{sym, ap, _∙_}
+use denote.Ref.{now}
+use mathlib.Core.Path.{_≡_, sym, ap, _∙_}
 use lib.Seq.{length-take-le}
+use Rattle.base.specs.Outcome.{Outcome, andThen}
+use Rattle.hex_line.specs.declared.Fields.{Fields}
 use Rattle.hex_line.specs.Record.{parsedOutcome}
 use Rattle.hex_line.specs.PairLaws.{kept-anyway}
-use Rattle.hex_line.specs.Line.{lineOutcome, readLine}
+use Rattle.hex_line.specs.Line.{lineOutcome, readFields, readLine}
+use Rattle.hex_line.specs.LineLaws.{read-parsed}
 use borrow.Author.Needs.{needs}
 use Rattle.hex_line.proofs.decide.Statement.{statement}
 use Rattle.hex_line.proofs.decide.Tie as tie
@@ -37,38 +41,35 @@ enum-told c = search needs
 same-length : tie.Need-same-length
 same-length c = search needs
 
+-- the answer once the fields are known
+module _ (p : tie.After-parse-pairs) where
+  abbrev text : tie.After-body-length
+  text = p .before .before .before
+
+  abbrev start : tie.Start
+  start = text .before .before .before .before .before .before
+
+  answered : (o : Outcome Fields) → parsedOutcome (p .parse-pairs .result) ≡ o
+      → andThen o (readFields (start .args .reader) (start .args .size))
+      ≡ readLine (start .args .reader) (start .args .size) (now (start .args .line))
+  answered o e =
+      let asked = text .before .before in
+      read-parsed _ _ _ o (sym (asked .before .is-buffer-length .ensures) ∙ asked .if1 .taken) (text .before .if2 .left)
+      (rw (← text .body-length .ensures .0) (sym (p .parse-pairs .ensures .0 .0) ∙ e))
+
 returns-2 : tie.Need-returns-2
-unfolding readLine
 returns-2 c =
-    let parsed = c .before .before .before .before .before .before in
-    let body = parsed .before .before .before in
+    let p = c .before .before .before .before .before .before in
     let e = ap parsedOutcome (c .before .before .f .given .1) in (
-      rw (
-        sym (body .before .before .before .is-buffer-length .ensures) ∙ body .before .before .if1 .taken,
-        body .before .if2 .left,
-        ← body .body-length .ensures .0,
-        sym (parsed .parse-pairs .ensures .0 .0) ∙ e,
-      )
-          (c .answer .ensures),
-      kept-anyway (lineOutcome (c .answer .result)) _ _ (rw (e, body .body-length .ensures .0) at (parsed .parse-pairs .ensures .1)),
+      c .answer .ensures ∙ answered p _ e,
+      kept-anyway (lineOutcome (c .answer .result)) _ _ (rw (e, text p .body-length .ensures .0) at (p .parse-pairs .ensures .1)),
     )
 
 same-length-2 : tie.Need-same-length-2
 same-length-2 c = search needs
 
 returns-3 : tie.Need-returns-3
-unfolding readLine
-returns-3 c =
-    let parsed = c .before .before .before .before in
-    let body = parsed .before .before .before in (
-      rw (
-        sym (body .before .before .before .is-buffer-length .ensures) ∙ body .before .before .if1 .taken,
-        body .before .if2 .left,
-        ← body .body-length .ensures .0,
-        sym (parsed .parse-pairs .ensures .0 .0) ∙ ap parsedOutcome (c .enum-told .given .1),
-      ),
-      tt,
-    )
+returns-3 c = (answered (c .before .before .before .before) _ (ap parsedOutcome (c .enum-told .given .1)), tt)
 
 returns-4 : tie.Need-returns-4
 unfolding readLine

@@ -1,6 +1,6 @@
 -- The table of digits is the definition's 256 values in order, by one computation.
 -- Assumes nothing.
-use mathlib.Core.Path.{_≡_, refl}
+use mathlib.Core.Path.{refl}
 use native.Mathlib.Omega.{arith}
 use borrow.Author.Needs.{needs}
 use Rattle.base.specs.Table.{table-at}

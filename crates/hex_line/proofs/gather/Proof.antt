@@ -2,12 +2,12 @@
 -- Assumes nothing.
 use denote.Ref.{now}
 use mathlib.Core.Path.{_≡_, refl, sym, _∙_}
-use Prim.Native.Nat.{_+_, _*_, _%_, _-_, _≤_, _<_}
+use Prim.Native.Nat.{_+_, _*_, _%_, _-_, _≤_}
 use native.Mathlib.Omega.{arith}
 use mathlib.Core.List.{map}
 use lib.ListN.{length, length-set}
 use Rattle.base.specs.Choice.{from}
-use Rattle.hex_line.specs.Record.{digitOf, pairAt}
+use Rattle.hex_line.specs.Record.{digitOf}
 use Rattle.hex_line.specs.Sum.{totalOf}
 use Rattle.hex_line.specs.Pairs.{Kept}
 use Rattle.hex_line.specs.SumLaws.{sum-so-far, total-next}

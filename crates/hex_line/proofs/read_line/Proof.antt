@@ -1,11 +1,6 @@
 -- `read_line`: the answer is that of `decide`; a line that is read fits into the buffer, and its pairs were kept.
 -- Assumes nothing.
-use denote.Ref.{now}
-use mathlib.Core.Path.{_≡_, sym, ap, _∙_}
-use Prim.Native.Nat.{_+_, _≤_}
-use native.Mathlib.Omega.{arith}
-use lib.ListN.{length}
-use Rattle.hex_line.specs.Record.{countOf, bodyOf}
+use mathlib.Core.Path.{sym, ap, _∙_}
 use Rattle.hex_line.specs.Line.{lineOutcome, lineBuffer}
 use Rattle.hex_line.specs.LineLaws.{read-within}
 use Rattle.hex_line.specs.ParseLaws.{kept-fits, kept-stored}

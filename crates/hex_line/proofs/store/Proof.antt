@@ -2,9 +2,9 @@
 -- Assumes nothing.
 use denote.Ref.{now}
 use mathlib.Core.Path.{_≡_}
-use Prim.Native.Nat.{_+_, _-_, _*_, _≤_}
+use Prim.Native.Nat.{_+_, _-_}
 use native.Mathlib.Omega.{arith}
-use lib.ListN.{length, getD, take, drop, length-drop}
+use lib.ListN.{length, take, drop, length-drop}
 use lib.Seq.{length-take-le}
 use Rattle.base.specs.Lists.{part-back}
 use Rattle.hex_line.specs.Pairs.{countIn, addressIn}
