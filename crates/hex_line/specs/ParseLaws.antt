@@ -57,13 +57,13 @@ refused-long l n e h =
     (λ (d : countOf l < 256). refused-length l (λ (q : length l ≡ countOf l * 2 + 11). absurd (omega arith)))
     (le? 256 (countOf l))
 
-module _ (l : List ℕ) (n : ℕ) (pairs : List ℕ) (size : length l ≡ n * 2 + 1) (kept : Kept l n pairs) where
-  count-kept : 0 < n → countIn pairs ≡ countOf l
-  unfolding countOf
-  count-kept h = kept .1 0 h
+count-kept : (l pairs : List ℕ) (n : ℕ) → Kept l n pairs → 0 < n → countIn pairs ≡ countOf l
+unfolding countOf
+count-kept l pairs n kept h = kept .1 0 h
 
+module _ (l : List ℕ) (n : ℕ) (pairs : List ℕ) (size : length l ≡ n * 2 + 1) (kept : Kept l n pairs) where
   called-for : countIn pairs + 5 ≡ n → n ≡ countOf l + 5
-  called-for e = omega (arith, count-kept (omega arith))
+  called-for e = omega (arith, count-kept l pairs n kept (omega arith))
 
   pub kept-fields : (s : ℕ) → KeptUnless (fieldsIn pairs n s) l pairs
   kept-fields s =
@@ -82,19 +82,18 @@ module _ (l : List ℕ) (n : ℕ) (pairs : List ℕ) (size : length l ≡ n * 2 
         eq-eqb _ _ long,
         whole,
         lt-ltb _ _ small,
-        count-kept (omega arith),
+        count-kept l pairs n kept (omega arith),
         kept .1 1 (omega arith),
         kept .1 2 (omega arith),
         kept .1 3 (omega arith),
       ))
       (λ f. sym
-      (refused-length l (λ (q : length l ≡ countOf l * 2 + 11). eqb-false (countIn pairs + 5) n f (omega (arith, count-kept (omega arith))))))
+      (refused-length l (λ (q : length l ≡ countOf l * 2 + 11). eqb-false (countIn pairs + 5) n f (omega (arith, count-kept l pairs n kept (omega arith))))))
 
 -- the count, the address and the data of a line, in its pairs
 module _ (l pairs : List ℕ) (kept : Kept l (countOf l + 5) pairs) where
   count-in : countIn pairs ≡ countOf l
-  unfolding countOf
-  count-in = kept .1 0 (omega arith)
+  count-in = count-kept l pairs (countOf l + 5) kept (omega arith)
 
   address-in : addressIn pairs ≡ addressOf l
   unfolding addressOf

@@ -8,7 +8,7 @@ use Rattle.hex_line.specs.Record.{pairAt}
 abbrev pub AllPairs : List ℕ → ℕ → Type 0
 AllPairs l n = (i : ℕ) → i < n → pairAt l (i * 2 + 1) < 256
 
--- the sum of the first n pairs behind the colon, as a number
+-- the sum of the first n pairs behind the colon, as a number. It is meant where all are digits
 unfoldable pub totalOf : List ℕ → ℕ → ℕ
 totalOf l zero = 0
 totalOf l (suc n) = totalOf l n + pairAt l (n * 2 + 1)

@@ -410,7 +410,7 @@ fn fields_in(pairs: &[u8], n: usize, sum: u16) -> Parsed
     })
 }
 
-// The fields of a line without its end, if it is a colon and the pairs that its length byte calls for. Keeps its pairs.
+// As `parse` below, and keeps the pairs of a well-formed line.
 fn parse_pairs(body: &[u8], pairs: &mut [u8]) -> Parsed
     requires { ⌜ length (now pairs) ≡ 260 ⌝ }
     ensures { λ r. ⌜ (parsedOutcome r ≡ parseBody (now (body .entry))) × Small r ⌝ }
@@ -499,7 +499,7 @@ pub fn body_length(line: &[u8]) -> usize
     n - 1
 }
 
-// The answer to a line, with or without its LF or CR LF, for a buffer of this length. Keeps the pairs of a line that is read.
+// As `check_line` below, and keeps the pairs of a line that is read.
 fn decide(line: &[u8], size: usize, reader: Reader, pairs: &mut [u8]) -> Line
     requires { ⌜ length (now pairs) ≡ 260 ⌝ }
     ensures { λ a. ⌜ lineOutcome a ≡ readLine reader size (now (line .entry)) ⌝ }

@@ -74,14 +74,20 @@ fn example_without_end() {
     }
 }
 
-fn line_number(answer: Line) -> u8 {
+// Prints the number of a line's answer, and of a line that is read where the next record may begin.
+fn print_answer(answer: Line) {
     match answer {
-        Line::Read(_) => 0,
-        Line::Refused(fault) => hex_line::number(fault),
+        Line::Read(reader) => {
+            print(b"0 next ");
+            print_number(reader.next as u64);
+        }
+        Line::Refused(fault) => {
+            print_number(wide(hex_line::number(fault)));
+        }
     }
 }
 
-// Prints the answer to a line behind a record that ended at 0102H, whether the image is as it was, and the line.
+// Prints the answer to a line behind a record that ended at 258 (0102H), whether the image is as it was, and the line.
 fn line_example(line: &[u8]) {
     let kept = [255u8; IMAGE_LENGTH];
     let mut image = [255u8; IMAGE_LENGTH];
@@ -89,7 +95,7 @@ fn line_example(line: &[u8]) {
         next: 258,
         ended: false,
     };
-    print_number(wide(line_number(hex_line::read_line(line, &mut image, reader))));
+    print_answer(hex_line::read_line(line, &mut image, reader));
     if check::same(&image, &kept) {
         print(b" unchanged ");
     } else {
@@ -103,8 +109,8 @@ fn line_example(line: &[u8]) {
 fn two_faults() {
     line_example(b":020102008FFF6D");
     line_example(b":020102008FFG6E"); // no digit, sum
-    line_example(b":020102008FFF6G"); // no digit, in the sum
     line_example(b":020102008FFF6EG"); // no digit behind a wrong sum
+    line_example(b":020102008FFF6EGG");
     line_example(b":030102008FFF6D"); // length, sum
     line_example(b":00000001FE"); // end line, sum
     line_example(b":020102028FFF6D"); // type, sum

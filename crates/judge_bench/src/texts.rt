@@ -6,6 +6,9 @@ use hex_write::Written;
 use test_support::print;
 use test_support::print_number;
 
+// How often a text is read or written.
+const TURNS: u64 = 20000;
+
 // The bytes of an image that has each value in each place modulo 256.
 fn image() -> [u8; IMAGE_LENGTH] {
     let mut image = [0u8; IMAGE_LENGTH];
@@ -70,9 +73,6 @@ fn turns(
 fn same(a: &[u8; IMAGE_LENGTH], b: &[u8; IMAGE_LENGTH]) -> bool {
     check::same(a, b)
 }
-
-// How often a text is read or written.
-const TURNS: u64 = 20000;
 
 fn tell(answer: u64, same: bool) {
     print(b" ");
