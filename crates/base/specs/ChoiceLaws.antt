@@ -13,6 +13,11 @@ pub pick-has : {A : Type 0} (P : A → Type 0) (b : Bool) (x y : A) → (b ≡ t
 pick-has P true x y f g = f refl
 pick-has P false x y f g = g refl
 
+-- a choice between one and the same
+pub pick-same : {A : Type 0} (b : Bool) (x : A) → pick b x x ≡ x
+pick-same true x = refl
+pick-same false x = refl
+
 -- P holds of each row's number and value
 abbrev pub Each : {A : Type 0} → (ℕ → A → Type 0) → List (ℕ × A) → Type 0
 Each P [] = Unit {0}

@@ -9,9 +9,9 @@ use Rattle.hex_line.specs.Record.{sumOf, countOf, parseBody}
 use Rattle.hex_line.specs.Sum.{AllPairs, totalOf}
 use Rattle.hex_line.specs.SumLaws as sums
 
--- Request 02. Add up the line while reading it. The crew wants the line sum gathered as each pair of digits is read, however it is done now, so that the work follows the order of the
--- text. After any number of pairs the sum so far is proved to be theirs modulo 256. Every line, with two faults too, gets the number, image and reader
--- it has today --
+-- Request 02. Add up the line while reading it. The crew wants the line sum gathered as each pair of digits is read, however it is done now, so that
+-- the work follows the order of the text. After any number of pairs the sum so far is proved to be theirs modulo 256. Every line, with two faults too,
+-- gets the number, image and reader it has today --
 
 -- the loop is `hex_line::gather`, whose contract says that its sum after n pairs is `sumOf line n`, and this law of it
 pub sum-so-far : (line : List ℕ) (n : ℕ) → AllPairs line n → sumOf line n ≡ totalOf line n % 256

@@ -8,12 +8,12 @@ use native.Mathlib.Omega.{arith}
 use lib.ListN.{length, getD, take, drop, set, length-drop}
 use lib.Seq.{take-suc, getD-drop, getD-set-same, getD-set-other}
 use lib.Dec.{ltb}
-use borrow.Author.Tests.{ltb-true, lt-ltb, le-ltb}
+use borrow.Author.Tests.{lt-ltb, le-ltb}
 use mir.Syntax.{w8}
 use mir.Val.{Fits}
 use Rattle.base.specs.Choice.{from}
-use Rattle.base.specs.ChoiceLaws.{pick-has}
-use Rattle.base.specs.Formula.{same?}
+use Rattle.base.specs.ChoiceLaws.{pick-same}
+use Rattle.base.specs.Formula.{same?, sound, le, forallBelow}
 use Rattle.base.specs.Outcome.{Outcome}
 use Rattle.base.specs.Outcome.Outcome.{value, refused}
 use Rattle.base.specs.Table.{table-at}
@@ -23,14 +23,8 @@ use Rattle.hex_line.specs.SumLaws.{sum-none}
 use Rattle.hex_line.specs.Pairs.{Kept, KeptUnless}
 
 -- a digit's value, and 16 of a character that is none
-pub digit-small : (c : ℕ) → digitOf c < 17
-digit-small c =
-    pick-has (λ (r : ℕ). r < 17) (ltb c 48) _ _ (λ _. omega arith)
-    (λ _. pick-has (λ (r : ℕ). r < 17) (ltb c 58) _ _ (λ h. omega (arith, ltb-true c 58 h))
-    (λ _. pick-has (λ (r : ℕ). r < 17) (ltb c 65) _ _ (λ _. omega arith)
-    (λ _. pick-has (λ (r : ℕ). r < 17) (ltb c 71) _ _ (λ h. omega (arith, ltb-true c 71 h))
-    (λ _. pick-has (λ (r : ℕ). r < 17) (ltb c 97) _ _ (λ _. omega arith)
-    (λ _. pick-has (λ (r : ℕ). r < 17) (ltb c 103) _ _ (λ h. omega (arith, ltb-true c 103 h)) (λ _. omega arith))))))
+pub digit-small : (c : ℕ) → c < 256 → digitOf c ≤ 16
+digit-small c h = sound (forallBelow 256 (λ k. le (digitOf k) 16)) tt c h
 
 -- the digit of a byte, from a table of all digits
 pub digit-of : (l : List ℕ) (k : ℕ) (table : List ℕ) → table ≡ map digitOf (from 256 0) → ((i : ℕ) → Fits w8 (getD l i 0))
@@ -54,7 +48,7 @@ pub pair-none-low : (l : List ℕ) (i : ℕ) → 16 ≤ digitOf (getD l (i * 2 +
 unfolding pairAt
 pair-none-low l i h =
     rw (second i, le-ltb (digitOf (getD l (i * 2 + 2) 0)) 16 h)
-    (pick-has (λ (r : ℕ). r ≡ 256) (ltb (digitOf (getD l (i * 2 + 1) 0)) 16) 256 256 (λ _. refl) (λ _. refl))
+    (pick-same (ltb (digitOf (getD l (i * 2 + 1) 0)) 16) 256)
 
 -- what is told of n pairs where one is none
 pub none-gathered : (l : List ℕ) (k n : ℕ) (pairs : List ℕ) → k < n → pairAt l (k * 2 + 1) ≡ 256

@@ -1,26 +1,23 @@
 -- What the pairs of a line decide: it is refused by 1, or its fields stand in the pairs that were kept.
 -- Assumes nothing.
 use Prim.Native.Nat.{ℕ, _+_, _*_, _≤_, _<_}
-use mathlib.Core.Path.{_≡_, refl, sym}
+use mathlib.Core.Path.{_≡_, sym}
 use mathlib.Core.Logic.{_≢_, ⊎-elim}
 use mathlib.Core.List.{List}
 use native.Mathlib.Omega.{arith}
 use lib.ListN.{length, getD}
 use lib.Dec.{eqb}
 use borrow.Author.Tests.{eqb-true, eqb-false, eq-eqb, ne-eqb, lt-ltb, le-ltb}
-use Rattle.base.specs.ChoiceLaws.{pick-has}
-use Rattle.base.specs.Formula.{same?, le?}
+use Rattle.base.specs.ChoiceLaws.{pick-has, pick-same}
+use Rattle.base.specs.Formula.{same?}
 use Rattle.base.specs.Outcome.{Outcome}
 use Rattle.base.specs.Outcome.Outcome.{refused}
 use Rattle.hex_line.specs.declared.Fields.{Fields}
 use Rattle.hex_line.specs.Record.{pairAt, sumOf, countOf, addressOf, fieldsOf, parseBody}
 use Rattle.hex_line.specs.Line.{stored}
 use Rattle.hex_line.specs.Pairs.{Kept, countIn, addressIn, fieldsIn, storedFrom, KeptUnless}
-use Rattle.hex_line.specs.SumLaws.{sum-none, pair-small}
+use Rattle.hex_line.specs.SumLaws.{sum-none, none-or-pair}
 use Rattle.hex_line.specs.PairLaws.{kept-data}
-
-abbrev ByOne : Outcome Fields → Type 0
-ByOne o = o ≡ refused 1
 
 -- no colon; another length than the length byte calls for; a pair that is none
 pub refused-colon : (l : List ℕ) → getD l 0 0 ≢ 58 → parseBody l ≡ refused 1
@@ -29,15 +26,12 @@ refused-colon l h = rw (ne-eqb _ _ h)
 
 pub refused-length : (l : List ℕ) → length l ≢ countOf l * 2 + 11 → parseBody l ≡ refused 1
 unfolding parseBody
-refused-length l h = rw (ne-eqb _ _ h) (pick-has ByOne (eqb (getD l 0 0) 58) _ _ (λ _. refl) (λ _. refl))
+refused-length l h = rw (ne-eqb _ _ h) (pick-same (eqb (getD l 0 0) 58) (refused 1))
 
 refused-pair : (l : List ℕ) → 256 ≤ sumOf l (countOf l + 5) → parseBody l ≡ refused 1
 unfolding parseBody
 refused-pair l h =
-    rw (le-ltb _ _ h)
-    (pick-has ByOne (eqb (getD l 0 0) 58) _ _
-    (λ _. pick-has ByOne (eqb (length l) (countOf l * 2 + 11)) _ _ (λ _. refl) (λ _. refl))
-    (λ _. refl))
+    rw (le-ltb _ _ h, pick-same {A = Outcome Fields} (eqb (length l) (countOf l * 2 + 11)) (refused 1)) (pick-same (eqb (getD l 0 0) 58) (refused 1))
 
 -- a line of n pairs, with one that is none
 pub refused-sum : (l : List ℕ) (n : ℕ) → length l ≡ n * 2 + 1 → 256 ≤ sumOf l n → parseBody l ≡ refused 1
@@ -50,12 +44,9 @@ refused-sum l n e h =
 pub refused-long : (l : List ℕ) (n : ℕ) → length l ≡ n * 2 + 1 → 260 < n → parseBody l ≡ refused 1
 unfolding countOf
 refused-long l n e h =
-    ⊎-elim
-    (λ (d : 256 ≤ countOf l).
-    let none : pairAt l 1 ≡ 256 = omega (arith, pair-small l 1) in
-    refused-pair l (omega (arith, sum-none l 0 (countOf l + 5) (omega arith) none)))
-    (λ (d : countOf l < 256). refused-length l (λ (q : length l ≡ countOf l * 2 + 11). absurd (omega arith)))
-    (le? 256 (countOf l))
+    ⊎-elim (λ (none : pairAt l 1 ≡ 256). refused-pair l (omega (arith, sum-none l 0 (countOf l + 5) (omega arith) none)))
+    (λ (there : pairAt l 1 < 256). refused-length l (λ (q : length l ≡ countOf l * 2 + 11). absurd (omega arith)))
+    (none-or-pair l 1)
 
 count-kept : (l pairs : List ℕ) (n : ℕ) → Kept l n pairs → 0 < n → countIn pairs ≡ countOf l
 unfolding countOf

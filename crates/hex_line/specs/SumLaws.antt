@@ -2,20 +2,23 @@
 -- Assumes nothing.
 use Prim.Native.Nat.{ℕ, zero, suc, _+_, _*_, _%_, _≤_, _<_}
 use mathlib.Core.Path.{_≡_, refl}
-use mathlib.Core.Logic.{_≢_, ⊎-elim}
+use mathlib.Core.Logic.{_⊎_, _≢_, inl, inr, ⊎-elim}
 use mathlib.Core.List.{List}
 use native.Mathlib.Numerals.{add-one}
 use native.Mathlib.Omega.{arith}
 use lib.ListN.{length, getD}
 use lib.Dec.{eqb, ltb}
 use borrow.Author.Tests.{ltb-true, lt-ltb}
-use Rattle.base.specs.ChoiceLaws.{pick-has}
+use Rattle.base.specs.ChoiceLaws.{pick-has, pick-same}
 use Rattle.base.specs.Formula.{same?, le?}
 use Rattle.base.specs.Outcome.{Outcome}
 use Rattle.base.specs.Outcome.Outcome.{value, refused}
 use Rattle.hex_line.specs.declared.Fields.{Fields}
 use Rattle.hex_line.specs.Record.{digitOf, joined, pairAt, added, sumOf, countOf, fieldsOf, parseBody}
 use Rattle.hex_line.specs.Sum.{AllPairs, totalOf}
+
+add-modulo : (t p : ℕ) → (t % 256 + p) % 256 ≡ (t + p) % 256
+add-modulo t p = omega arith
 
 -- the sum so far, after any number of pairs
 pub sum-so-far : (l : List ℕ) (n : ℕ) → AllPairs l n → sumOf l n ≡ totalOf l n % 256
@@ -26,17 +29,16 @@ sum-so-far l (suc n) h =
     let p = pairAt l (n * 2 + 1) in
     let e : sumOf l n ≡ t % 256 = sum-so-far l n (λ i b. h i (omega arith)) in
     let s : t % 256 < 256 = omega arith in
-    let m : (t % 256 + p) % 256 ≡ (t + p) % 256 = omega arith in
-    rw (e, lt-ltb (t % 256) 256 s, lt-ltb p 256 (h n (omega arith))) m
+    rw (e, lt-ltb (t % 256) 256 s, lt-ltb p 256 (h n (omega arith))) (add-modulo t p)
 
 -- with one more pair
 pub total-next : (l : List ℕ) (i s : ℕ) → s ≡ totalOf l i % 256 → (s + pairAt l (i * 2 + 1)) % 256 ≡ totalOf l (i + 1) % 256
 unfolding totalOf
-total-next l i s e = rw (add-one i) (omega (arith, e))
+total-next l i s e = rw (add-one i, e) (add-modulo (totalOf l i) (pairAt l (i * 2 + 1)))
 
 -- behind a pair that is none there is no sum
 added-none : (s p : ℕ) → p ≡ 256 → added s p ≡ 256
-added-none s p e = rw e (pick-has (λ (r : ℕ). r ≡ 256) (ltb s 256) 256 256 (λ _. refl) (λ _. refl))
+added-none s p e = rw e (pick-same (ltb s 256) 256)
 
 pub sum-none : (l : List ℕ) (k n : ℕ) → k < n → pairAt l (k * 2 + 1) ≡ 256 → sumOf l n ≡ 256
 unfolding sumOf
@@ -53,19 +55,20 @@ joined-small high low =
     (λ h. pick-has (λ (r : ℕ). r ≤ 256) (ltb low 16) _ _ (λ o. omega (arith, ltb-true high 16 h, ltb-true low 16 o)) (λ _. omega arith))
     (λ _. omega arith)
 
-pub pair-small : (l : List ℕ) (k : ℕ) → pairAt l k ≤ 256
+pair-small : (l : List ℕ) (k : ℕ) → pairAt l k ≤ 256
 unfolding pairAt
 pair-small l k = joined-small (digitOf (getD l k 0)) (digitOf (getD l (k + 1) 0))
+
+pub none-or-pair : (l : List ℕ) (k : ℕ) → (pairAt l k ≡ 256) ⊎ (pairAt l k < 256)
+none-or-pair l k =
+    ⊎-elim (λ (d : 256 ≤ pairAt l k). inl (omega (arith, pair-small l k))) (λ (d : pairAt l k < 256). inr d) (le? 256 (pairAt l k))
 
 -- where there is a sum, all pairs are two digits
 all-pairs : (l : List ℕ) (n : ℕ) → sumOf l n < 256 → AllPairs l n
 all-pairs l n h i b =
-    ⊎-elim
-    (λ (d : 256 ≤ pairAt l (i * 2 + 1)).
-    let none : pairAt l (i * 2 + 1) ≡ 256 = omega (arith, pair-small l (i * 2 + 1)) in
-    absurd (omega (arith, sum-none l i n b none)))
-    (λ (d : pairAt l (i * 2 + 1) < 256). d)
-    (le? 256 (pairAt l (i * 2 + 1)))
+    ⊎-elim (λ (none : pairAt l (i * 2 + 1) ≡ 256). absurd (omega (arith, sum-none l i n b none)))
+    (λ (there : pairAt l (i * 2 + 1) < 256). there)
+    (none-or-pair l (i * 2 + 1))
 
 -- so the sum of a well-formed line is that of all its pairs: length byte, address, type, data and sum byte
 abbrev HasSum : List ℕ → Outcome Fields → Type 0

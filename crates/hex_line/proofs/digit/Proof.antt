@@ -13,7 +13,7 @@ array-read-result : tie.Need-array-read-result
 array-read-result c = search needs
 
 cast-result : tie.Need-cast-result
-cast-result c = omega (arith, table-at digitOf 0 256 _ refl (c .args .c) (search needs), digit-small (c .args .c))
+cast-result c = omega (arith, table-at digitOf 0 256 _ refl (c .args .c) (search needs), digit-small (c .args .c) (search needs))
 
 returns : tie.Need-returns
 returns c = table-at digitOf 0 256 _ refl (c .args .c) (search needs)
