@@ -90,10 +90,18 @@ fn refused_examples() {
     example(b"no_end_image.hex", b"past_end_cert.hex");
 }
 
-// Other line ends and letter cases, larger programs, too short a buffer.
+// Small letters in the image, in the certificate, in both, in the end line, and behind it.
+fn letter_examples() {
+    example(b"lower_image.hex", b"p_cert.hex");
+    example(b"p_image.hex", b"lower_cert.hex");
+    example(b"lower_image.hex", b"lower_cert.hex");
+    fault(b"faults/small_end.hex");
+    fault(b"faults/small_behind_end.hex");
+}
+
+// Other line ends, larger programs, too short a buffer.
 fn other_examples() {
     example(b"crlf_image.hex", b"crlf_cert.hex");
-    example(b"lower_image.hex", b"lower_cert.hex");
     example(b"logger_image.hex", b"logger_cert.hex");
     example(b"overrun_image.hex", b"overrun_cert.hex");
     example(b"overrun_image.hex", b"logger_cert.hex");
@@ -237,6 +245,7 @@ fn main() {
     p_examples();
     absent_examples();
     refused_examples();
+    letter_examples();
     malformed_examples();
     long_examples();
     field_examples();

@@ -3,6 +3,7 @@
 --   `decode` decodeAt; `encode` encodeAnswer, encodeInto; `copy_instruction` copyAnswer, copyInto;
 --   `new_reader` begun; `check_line` readLine; `read_line` readLine, lineBuffer; `read_text` textAnswer, textBuffer;
 --   `start` started; `feed` feedStream, feedBuffer; `finish` finishAnswer; `write_image` writeAnswer, writeBuffer;
+--   `upper_line` upperAnswer, upperLine;
 --   `reset` resetState; `step` stepOf; `run` runOf; `check` verdictOf;
 --   `write_report` reportAnswer, reportBuffer; `judge_texts` printedAnswer, printedBuffer.
 -- `judge_files` promises what `judge_texts` does of some two texts: no contract can say what a file holds.
@@ -49,6 +50,8 @@ use Rattle.hex_text.specs.Refusals.{text-number, text-unchanged, length-textBuf
 use Rattle.hex_write.specs.ImageText.{textLength, writeAnswer, writeBuffer}
 use Rattle.hex_write.specs.Refusals.{write-number, write-unchanged, length-writeBuffer}
 use Rattle.hex_write.specs.ReadBack.{ReadsBack, written-whole, write-reads-back}
+use Rattle.hex_upper.specs.Upper.{upperAnswer, upperLine}
+use Rattle.hex_upper.specs.UpperLaws.{upper-number, upper-unchanged, upper-length}
 use Rattle.certificate.specs.declared.Verdict.{Verdict}
 use Rattle.certificate.specs.declared.Verdict.the-variants.{Accepted, Refused}
 use Rattle.certificate.specs.Layout.{certificateOf}
@@ -101,6 +104,10 @@ feed-keeps-length = length-feedBuffer
 
 pub finish-refuses : (size : ℕ) (s : Stream) (n : ℕ) → finishAnswer size s ≡ refused n → HexNumber n
 finish-refuses = finish-number
+
+-- the lent line is the buffer
+pub upper-line-lends : (line : List ℕ) → Lends (λ n. (1 ≤ n) × (n ≤ 3)) (upperAnswer line) line (upperLine line)
+upper-line-lends line = record { number = upper-number line; unchanged = upper-unchanged line; size = upper-length line }
 
 pub write-image-lends : (m out : List ℕ) → Lends (λ n. n ≡ 7) (writeAnswer (length m) (length out)) out (writeBuffer m out)
 write-image-lends m out =

@@ -1,13 +1,20 @@
 -- The requests of document 02 that have landed, word for word, with what each states as a theorem over the definitions.
 -- Assumes nothing.
-use Prim.Native.Nat.{ℕ, _+_, _%_}
+use Prim.Native.Nat.{ℕ, _+_, _-_, _%_}
 use mathlib.Core.Path.{_≡_}
+use mathlib.Core.Bool.{true, false}
 use mathlib.Core.List.{List}
-use Rattle.base.specs.Outcome.Outcome.{value}
+use lib.ListN.{length, getD}
+use Rattle.base.specs.Outcome.Outcome.{value, refused}
 use Rattle.hex_line.specs.declared.Fields.{Fields}
-use Rattle.hex_line.specs.Record.{sumOf, countOf, parseBody}
+use Rattle.hex_line.specs.declared.Reader.{Reader}
+use Rattle.hex_line.specs.Record.{sumOf, countOf, parseBody, bodyLength}
+use Rattle.hex_line.specs.Line.{bufferLength, readLine, lineBuffer}
 use Rattle.hex_line.specs.Sum.{AllPairs, totalOf}
 use Rattle.hex_line.specs.SumLaws as sums
+use Rattle.hex_upper.specs.Former.{isSmall, formerLine, formerBuffer}
+use Rattle.hex_upper.specs.Upper.{upperAnswer, upperLine}
+use Rattle.hex_upper.specs.UpperLaws as upper
 
 -- Request 02. Add up the line while reading it. The crew wants the line sum gathered as each pair of digits is read, however it is done now, so that
 -- the work follows the order of the text. After any number of pairs the sum so far is proved to be theirs modulo 256. Every line, with two faults too,
@@ -22,3 +29,38 @@ pub line-sum : (line : List ℕ) (f : Fields) → parseBody line ≡ value f →
 line-sum = sums.line-sum
 
 -- every line keeps its answer: `readLine` and `lineBuffer`, which the contracts of `check_line` and `read_line` name, are as they were
+
+-- Request 13. Lower-case HEX goes. Our programmers' sockets reject small letters, and mixed files caused returned chips. From now on the reader refuses
+-- them. For files already in the drawer one separate call turns in place an old line that breaks none of 1 to 3 as they stood into its upper-case line;
+-- it changes nothing else, and the new reader treats that line as the former one treated the old. Checks: 1 also for a to f; the separate call refuses by
+-- 1 to 3 as before --
+
+-- the reader is `readLine`, `lineBuffer`, by which texts and pieces are read too: a line with a small letter anywhere is 1, unless 7 or 6 stands before it
+pub small-letter-refused : (reader : Reader) (size : ℕ) (line : List ℕ) (i : ℕ) → bufferLength size ≡ true → reader .ended ≡ false
+    → isSmall (getD line i 0) ≡ true → readLine reader size line ≡ refused 1
+small-letter-refused = upper.small-refused
+
+-- the separate call is `hex_upper::upper_line`: it answers `upperAnswer` of a line and leaves `upperLine`. The former reader is `formerLine`, `formerBuffer`.
+-- The reader gives a converted line the number, the reader and the buffer that the former one gave the old line
+pub converted-line-read : (line : List ℕ) → upperAnswer line ≡ value tt → (reader : Reader) (buffer : List ℕ)
+    → (readLine reader (length buffer) (upperLine line) ≡ formerLine reader (length buffer) line)
+    × (lineBuffer reader (upperLine line) buffer ≡ formerBuffer reader line buffer)
+converted-line-read line e reader buffer =
+    (upper.converted-read line e reader (length buffer), upper.converted-buffer line e reader buffer)
+
+-- a small letter of a converted line becomes its upper-case letter; the call changes no other character, neither the line's length nor its end
+pub letter-converted : (line : List ℕ) (i : ℕ) → upperAnswer line ≡ value tt → isSmall (getD line i 0) ≡ true
+    → getD (upperLine line) i 0 ≡ getD line i 0 - 32
+letter-converted = upper.upper-letters
+
+pub other-characters-stay : (line : List ℕ) (i : ℕ) → isSmall (getD line i 0) ≡ false → getD (upperLine line) i 0 ≡ getD line i 0
+other-characters-stay = upper.upper-others
+
+pub length-stays : (line : List ℕ) → (length (upperLine line) ≡ length line) × (bodyLength (upperLine line) ≡ bodyLength line)
+length-stays line = (upper.upper-length line, upper.upper-end line)
+
+pub without-small-letters : (line : List ℕ) → ((i : ℕ) → isSmall (getD line i 0) ≡ false) → upperLine line ≡ line
+without-small-letters = upper.upper-same
+
+-- `:00000001ff` becomes the end line: `end-line-converted` of `hex_upper`.
+-- A line that breaks 1, 2 or 3 as they stood is refused by that number and left as it was: `upper-line-lends` of `Demands.antt`

@@ -99,7 +99,7 @@ fn print_malformed(errors: i32, finding: Finding) {
         Finding::Empty => print(errors, b"empty line"),
         Finding::NoColon(c) => print_wrong_character(errors, 1, c, b"':'"),
         Finding::NoDigit(number, c) => {
-            print_wrong_character(errors, number, c, b"a hexadecimal digit");
+            print_wrong_character(errors, number, c, b"0 to 9 or A to F");
         }
         Finding::Cut(found) => {
             print_characters(errors, found);

@@ -1,9 +1,9 @@
 -- A finding tells of the refusal that the reader gives, and the sum byte that it names is the right one.
 -- Assumes nothing.
 use Prim.Native.Nat.{ℕ, suc, _+_, _-_, _*_, _%_, _≤_, _<_}
-use mathlib.Core.Path.{_≡_, refl, sym, _∙_}
+use mathlib.Core.Path.{_≡_, refl}
 use mathlib.Core.Bool.{Bool, true, false}
-use mathlib.Core.List.{List, [], _∷_}
+use mathlib.Core.List.{List}
 use native.Mathlib.Numerals.{add-one}
 use native.Mathlib.Omega.{arith}
 use lib.Dec.{eqb, leb, ltb}
@@ -14,8 +14,9 @@ use Rattle.base.specs.Choice.{pick}
 use Rattle.base.specs.ChoiceLaws.{pick-has}
 use Rattle.base.specs.Outcome.{Outcome, andThen, onOutcome}
 use Rattle.base.specs.Outcome.Outcome.{value, refused}
-use Rattle.hex_line.specs.Record.{digitOf, pairAt, added, sumOf, countOf, parseBody, bodyOf}
-use Rattle.hex_line.specs.Line.{bufferLength, readFields, readLine}
+use Rattle.hex_line.specs.Record.{digitOf, pairAt, added, sumOf, countOf, parseBody, bodyOf, sumBy}
+use Rattle.hex_line.specs.Line.{bufferLength, placeFields, readFields, readLine, readBy}
+use Rattle.hex_line.specs.Cases.{parsed-has, checked-has}
 use Rattle.hex_line.specs.declared.Reader.{Reader}
 use Rattle.hex_line.specs.declared.Fields.{Fields}
 use Rattle.hex_fault.specs.declared.Finding.{Finding}
@@ -43,34 +44,28 @@ RefusedByOne (value f) = Unit {0}
 RefusedByOne (refused k) = k ≡ 1
 
 parse-number : (body : List ℕ) → RefusedByOne (parseBody body)
-unfolding parseBody
-parse-number body =
-    pick-has RefusedByOne (eqb (getD body 0 0) 58) _ _
-    (λ _. pick-has RefusedByOne (eqb (length body) (countOf body * 2 + 11)) _ _
-    (λ _. pick-has RefusedByOne (ltb (sumOf body (countOf body + 5)) 256) _ _ (λ _. tt) (λ _. refl))
-    (λ _. refl))
-    (λ _. refl)
+parse-number body = parsed-has RefusedByOne body (λ _. tt) refl
 
 -- the finding belongs to this answer of the reader
 abbrev Agrees : List ℕ → ℕ → Reader → Outcome Reader → Type 0
 Agrees body size reader o = findingNumber (onOutcome o (λ next. Finding.Right) (refusalFinding body size reader)) ≡ onOutcome o (λ next. 0) (λ n. n)
 
-fields-agree : (body : List ℕ) (size : ℕ) (reader : Reader) (f : Fields) → parseBody body ≡ value f → Agrees body size reader (readFields reader size f)
-fields-agree body size reader f e =
-    pick-has (Agrees body size reader) (eqb (f .kind) 1) _ _
-    (λ _. pick-has (Agrees body size reader) (eqb (f .count) 0) _ _
-    (λ _. pick-has (Agrees body size reader) (eqb (f .address) 0) _ _
-    (λ _. pick-has (Agrees body size reader) (eqb (f .sum) 0) _ _ (λ _. refl) (λ _. rw e)) (λ _. rw e)) (λ _. rw e))
-    (λ _. pick-has (Agrees body size reader) (eqb (f .sum) 0) _ _
-    (λ _. pick-has (Agrees body size reader) (eqb (f .kind) 0) _ _
-    (λ _. pick-has (Agrees body size reader) (leb (reader .next) (f .address)) _ _
-    (λ _. pick-has (Agrees body size reader) (leb (f .address + f .count) size) _ _ (λ _. refl) (λ _. rw e)) (λ _. rw e)) (λ _. rw e))
-    (λ _. rw e))
+module _ (body : List ℕ) (size : ℕ) (reader : Reader) (f : Fields) (e : parseBody body ≡ value f) where
+  place-agrees : Agrees body size reader (placeFields reader size f)
+  place-agrees =
+      pick-has (Agrees body size reader) (eqb (f .kind) 1) _ _ (λ _. refl)
+      (λ _. pick-has (Agrees body size reader) (leb (reader .next) (f .address)) _ _
+      (λ _. pick-has (Agrees body size reader) (leb (f .address + f .count) size) _ _ (λ _. refl) (λ _. rw e)) (λ _. rw e))
+
+  fields-agree : Agrees body size reader (readFields reader size f)
+  fields-agree =
+      checked-has (λ (o : Outcome (Unit {0})). Agrees body size reader (andThen o (λ _. placeFields reader size f))) f
+      (λ _. place-agrees) (rw e) (rw e) (rw e)
 
 -- the finding's number is the reader's
 pub finding-number : (reader : Reader) (size : ℕ) (line : List ℕ)
     → findingNumber (findingOf reader size line) ≡ onOutcome (readLine reader size line) (λ next. 0) (λ n. n)
-unfolding findingOf readLine
+unfolding findingOf readBy
 finding-number reader size line = by-test (bufferLength size) (reader .ended) (parseBody (bodyOf line)) refl
   where
     by-test : (a d : Bool) (o : Outcome Fields) → parseBody (bodyOf line) ≡ o
@@ -93,7 +88,7 @@ added-small a b = pick-has (λ k. k < 256 → k ≡ (a + b) % 256) (ltb a 256) _
 -- the sum byte that is named makes the sum of a well-formed line 0 modulo 256: all pairs before it, and it
 pub right-sum : (body : List ℕ) → length body ≡ countOf body * 2 + 11 → sumOf body (countOf body + 5) < 256
     → (sumOf body (countOf body + 4) + rightSum (lastPair body) (sumOf body (countOf body + 5))) % 256 ≡ 0
-unfolding lastPair sumOf
+unfolding lastPair sumBy
 right-sum body l h =
     let k : countOf body + 5 ≡ suc (countOf body + 4) = omega arith in
     let p : (countOf body + 4) * 2 + 1 ≡ length body - 2 = omega arith in

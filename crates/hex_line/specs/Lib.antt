@@ -1,5 +1,6 @@
 pub mod Record
 pub mod Line
+pub mod Cases
 pub mod LineLaws
 pub mod Refusals
 pub mod Sum

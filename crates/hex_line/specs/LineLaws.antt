@@ -2,31 +2,31 @@
 -- Assumes nothing.
 use Prim.Native.Nat.{ℕ, zero, suc, _+_, _*_, _%_, _≤_}
 use mathlib.Core.Path.{_≡_, refl, ap, _∙_}
-use mathlib.Core.Bool.{Bool, true, false, false≢true}
+use mathlib.Core.Bool.{true, false, false≢true}
 use mathlib.Core.List.{List, [], _∷_, _++_}
 use native.Mathlib.Numerals.{add-one}
 use native.Mathlib.Omega.{arith}
-use lib.ListN.{length, getD, take, drop, length-append, length-drop}
+use lib.ListN.{length, take, drop, length-append, length-drop}
 use lib.Seq.{length-take-le}
-use lib.Dec.{T, eqb, ltb, leb}
-use borrow.Author.Tests.{eqb-true, leb-true}
-use Rattle.base.specs.Choice.{pick}
+use lib.Dec.{T, eqb, leb}
+use borrow.Author.Tests.{leb-true}
 use Rattle.base.specs.ChoiceLaws.{pick-has}
 use Rattle.base.specs.Formula.{le, _&_, decide, sound}
 use Rattle.base.specs.Outcome.{Outcome, andThen}
 use Rattle.base.specs.Outcome.Outcome.{value, refused}
 use Rattle.hex_line.specs.declared.Reader.{Reader}
 use Rattle.hex_line.specs.declared.Fields.{Fields}
-use Rattle.hex_line.specs.Record.{pairAt, added, sumOf, dataOf, countOf, addressOf, fieldsOf, parseBody, bodyOf}
-use Rattle.hex_line.specs.Line.{bufferLength, readEnd, readData, readFields, readLine, stored, lineBuffer}
+use Rattle.hex_line.specs.Record.{pairAt, added, sumOf, dataOf, countOf, addressOf, fieldsOf, parseBody, bodyOf, dataBy, fieldsBy, sumBy}
+use Rattle.hex_line.specs.Cases.{parsed-has, checked-has}
+use Rattle.hex_line.specs.Line.{bufferLength, placeFields, readFields, readLine, stored, lineBuffer, bufferBy, readBy, storedBy}
 
 -- one more pair
 pub sumOf-more : (l : List ℕ) (i : ℕ) → sumOf l (i + 1) ≡ added (sumOf l i) (pairAt l (i * 2 + 1))
-unfolding sumOf
+unfolding sumBy
 sumOf-more l i = rw (add-one i)
 
 pub length-dataOf : (l : List ℕ) (n : ℕ) → length (dataOf l n) ≡ n
-unfolding dataOf
+unfolding dataBy
 length-dataOf l zero = refl
 length-dataOf l (suc n) =
     length-append (dataOf l n) (pairAt l (n * 2 + 9) % 256 ∷ []) ∙ (ap (λ (k : ℕ). k + 1) (length-dataOf l n) ∙ add-one n)
@@ -34,7 +34,7 @@ length-dataOf l (suc n) =
 -- the answer by the fields, where neither 7 nor 6 stands before it
 pub read-parsed : (reader : Reader) (size : ℕ) (l : List ℕ) (o : Outcome Fields) → bufferLength size ≡ true → reader .ended ≡ false
     → parseBody (bodyOf l) ≡ o → andThen o (readFields reader size) ≡ readLine reader size l
-unfolding readLine
+unfolding readBy
 read-parsed reader size l o b d e = rw (b, d, e)
 
 -- a record that is read ends within the buffer, the end line at address 0; a refusal has a number of 01's table for HEX
@@ -50,44 +50,31 @@ module _ (reader : Reader) (size : ℕ) (f : Fields) where
   abbrev end : ℕ
   end = f .address + f .count
 
-  within-end : Within end size (readEnd reader f)
-  within-end =
-      pick-has (Within end size) (eqb (f .count) 0) _ _
-      (λ c. pick-has (Within end size) (eqb (f .address) 0) _ _
-      (λ a. pick-has (Within end size) (eqb (f .sum) 0) _ _
-      (λ s. let z : end ≡ 0 = omega (arith, eqb-true (f .count) 0 c, eqb-true (f .address) 0 a) in (omega arith, λ e. z)) (λ s. numeral tt)) (λ a. numeral tt))
-      (λ c. numeral tt)
-
-  within-data : Within end size (readData reader size f)
-  within-data =
-      pick-has (Within end size) (eqb (f .sum) 0) _ _
-      (λ s. pick-has (Within end size) (eqb (f .kind) 0) _ _
-      (λ k. pick-has (Within end size) (leb (reader .next) (f .address)) _ _
-      (λ a. pick-has (Within end size) (leb end size) (value (record { next = end; ended = false })) (refused 5)
-      (λ e. (leb-true (f .address + f .count) size e, λ d. absurd (false≢true d))) (λ e. numeral tt)) (λ a. numeral tt)) (λ k. numeral tt))
-      (λ s. numeral tt)
+  within-place : (eqb (f .kind) 1 ≡ true → end ≡ 0) → Within end size (placeFields reader size f)
+  within-place z =
+      pick-has (Within end size) (eqb (f .kind) 1) (value (record { next = reader .next; ended = true })) _
+      (λ k. (omega (arith, z k), λ e. z k))
+      (λ _. pick-has (Within end size) (leb (reader .next) (f .address)) _ _
+      (λ _. pick-has (Within end size) (leb end size) (value (record { next = end; ended = false })) (refused 5)
+      (λ e. (leb-true (f .address + f .count) size e, λ d. absurd (false≢true d))) (λ _. numeral tt))
+      (λ _. numeral tt))
 
   within-fields : Within end size (readFields reader size f)
-  within-fields = pick-has (Within end size) (eqb (f .kind) 1) _ _ (λ k. within-end) (λ k. within-data)
-
-  within-parsed : (a b c : Bool)
-      → Within end size (andThen (pick a (pick b (pick c (value f) (refused 1)) (refused 1)) (refused 1)) (readFields reader size))
-  within-parsed false b c = numeral tt
-  within-parsed true false c = numeral tt
-  within-parsed true true false = numeral tt
-  within-parsed true true true = within-fields
+  within-fields =
+      checked-has (λ (o : Outcome (Unit {0})). Within end size (andThen o (λ _. placeFields reader size f))) f
+      within-place (numeral tt) (numeral tt) (numeral tt)
 
 pub within-line : (reader : Reader) (size : ℕ) (l : List ℕ)
     → Within (addressOf (bodyOf l) + countOf (bodyOf l)) size (readLine reader size l)
-unfolding readLine parseBody fieldsOf
+unfolding readBy fieldsBy
 within-line reader size l =
     let b = bodyOf l in
     let end = addressOf b + countOf b in
     pick-has (Within end size) (bufferLength size) _ _
-    (λ e. pick-has (Within end size) (reader .ended) _ _ (λ d. numeral tt)
-    (λ d. within-parsed reader size (fieldsOf b) (eqb (getD b 0 0) 58) (eqb (length b) (countOf b * 2 + 11))
-    (ltb (sumOf b (countOf b + 5)) 256)))
-    (λ e. numeral tt)
+    (λ _. pick-has (Within end size) (reader .ended) _ _ (λ _. numeral tt)
+    (λ _. parsed-has (λ (o : Outcome Fields). Within end size (andThen o (readFields reader size))) b
+    (λ _. within-fields reader size (fieldsOf b)) (numeral tt)))
+    (λ _. numeral tt)
 
 pub read-within : (reader : Reader) (size : ℕ) (l : List ℕ) (next : Reader) → readLine reader size l ≡ value next
     → addressOf (bodyOf l) + countOf (bodyOf l) ≤ size
@@ -96,7 +83,7 @@ read-within reader size l next e = (rw e at (within-line reader size l)) .0
 -- the line that ends a text writes nothing
 pub end-keeps : (reader : Reader) (l m : List ℕ) (next : Reader) → readLine reader (length m) l ≡ value next → next .ended ≡ true
     → lineBuffer reader l m ≡ m
-unfolding lineBuffer stored dataOf
+unfolding bufferBy storedBy dataBy
 end-keeps reader l m next e d =
     let z : addressOf (bodyOf l) + countOf (bodyOf l) ≡ 0 = (rw e at (within-line reader (length m) l)) .1 d in
     let a : addressOf (bodyOf l) ≡ 0 = omega arith in
@@ -105,7 +92,7 @@ end-keeps reader l m next e d =
 
 -- a buffer keeps its length
 pub length-stored : (body m : List ℕ) → addressOf body + countOf body ≤ length m → length (stored body m) ≡ length m
-unfolding stored
+unfolding storedBy
 length-stored body m h =
     let a = addressOf body in
     let n = countOf body in

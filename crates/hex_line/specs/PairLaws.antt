@@ -17,7 +17,7 @@ use Rattle.base.specs.Formula.{same?, sound, le, forallBelow}
 use Rattle.base.specs.Outcome.{Outcome}
 use Rattle.base.specs.Outcome.Outcome.{value, refused}
 use Rattle.base.specs.Table.{table-at}
-use Rattle.hex_line.specs.Record.{digitOf, pairAt, sumOf, dataOf, countOf}
+use Rattle.hex_line.specs.Record.{digitOf, pairAt, sumOf, dataOf, countOf, dataBy, pairBy}
 use Rattle.hex_line.specs.Sum.{AllPairs, totalOf}
 use Rattle.hex_line.specs.SumLaws.{sum-none}
 use Rattle.hex_line.specs.Pairs.{Kept, KeptUnless}
@@ -37,15 +37,15 @@ second i = omega arith
 
 pub pair-of : (l : List ℕ) (i high low : ℕ) → high ≡ digitOf (getD l (i * 2 + 1) 0) → low ≡ digitOf (getD l (i * 2 + 2) 0) → high < 16
     → low < 16 → pairAt l (i * 2 + 1) ≡ high * 16 + low
-unfolding pairAt
+unfolding pairBy
 pair-of l i high low e f h o = rw (second i, ← e, ← f, lt-ltb high 16 h, lt-ltb low 16 o)
 
 pub pair-none : (l : List ℕ) (i : ℕ) → 16 ≤ digitOf (getD l (i * 2 + 1) 0) → pairAt l (i * 2 + 1) ≡ 256
-unfolding pairAt
+unfolding pairBy
 pair-none l i h = rw (le-ltb (digitOf (getD l (i * 2 + 1) 0)) 16 h)
 
 pub pair-none-low : (l : List ℕ) (i : ℕ) → 16 ≤ digitOf (getD l (i * 2 + 2) 0) → pairAt l (i * 2 + 1) ≡ 256
-unfolding pairAt
+unfolding pairBy
 pair-none-low l i h =
     rw (second i, le-ltb (digitOf (getD l (i * 2 + 2) 0)) 16 h)
     (pick-same (ltb (digitOf (getD l (i * 2 + 1) 0)) 16) 256)
@@ -71,7 +71,7 @@ kept-next l i v pairs k b e s = (all, each)
 
 -- the data of a line, in its pairs
 pub kept-data : (l pairs : List ℕ) (n : ℕ) → Kept l (n + 4) pairs → n + 4 ≤ length pairs → take n (drop 4 pairs) ≡ dataOf l n
-unfolding dataOf
+unfolding dataBy
 kept-data l pairs zero k b = refl
 kept-data l pairs (suc n) k b =
     let p : 4 + n ≡ n + 4 = omega arith in

@@ -7,14 +7,15 @@ use mathlib.Core.List.{List}
 use native.Mathlib.Numerals.{add-one}
 use native.Mathlib.Omega.{arith}
 use lib.ListN.{length, getD}
-use lib.Dec.{eqb, ltb}
+use lib.Dec.{ltb}
 use borrow.Author.Tests.{ltb-true, lt-ltb}
 use Rattle.base.specs.ChoiceLaws.{pick-has, pick-same}
 use Rattle.base.specs.Formula.{same?, le?}
 use Rattle.base.specs.Outcome.{Outcome}
 use Rattle.base.specs.Outcome.Outcome.{value, refused}
 use Rattle.hex_line.specs.declared.Fields.{Fields}
-use Rattle.hex_line.specs.Record.{digitOf, joined, pairAt, added, sumOf, countOf, fieldsOf, parseBody}
+use Rattle.hex_line.specs.Record.{digitOf, joined, pairAt, added, sumOf, countOf, parseBody, fieldsBy, pairBy, sumBy}
+use Rattle.hex_line.specs.Cases.{parsed-has}
 use Rattle.hex_line.specs.Sum.{AllPairs, totalOf}
 
 add-modulo : (t p : ℕ) → (t % 256 + p) % 256 ≡ (t + p) % 256
@@ -22,7 +23,7 @@ add-modulo t p = omega arith
 
 -- the sum so far, after any number of pairs
 pub sum-so-far : (l : List ℕ) (n : ℕ) → AllPairs l n → sumOf l n ≡ totalOf l n % 256
-unfolding sumOf totalOf
+unfolding sumBy totalOf
 sum-so-far l zero h = refl
 sum-so-far l (suc n) h =
     let t = totalOf l n in
@@ -41,7 +42,7 @@ added-none : (s p : ℕ) → p ≡ 256 → added s p ≡ 256
 added-none s p e = rw e (pick-same (ltb s 256) 256)
 
 pub sum-none : (l : List ℕ) (k n : ℕ) → k < n → pairAt l (k * 2 + 1) ≡ 256 → sumOf l n ≡ 256
-unfolding sumOf
+unfolding sumBy
 sum-none l k zero b h = absurd (omega arith)
 sum-none l k (suc n) b h =
     ⊎-elim (λ (e : k ≡ n). added-none (sumOf l n) _ (rw e at h))
@@ -56,7 +57,7 @@ joined-small high low =
     (λ _. omega arith)
 
 pair-small : (l : List ℕ) (k : ℕ) → pairAt l k ≤ 256
-unfolding pairAt
+unfolding pairBy
 pair-small l k = joined-small (digitOf (getD l k 0)) (digitOf (getD l (k + 1) 0))
 
 pub none-or-pair : (l : List ℕ) (k : ℕ) → (pairAt l k ≡ 256) ⊎ (pairAt l k < 256)
@@ -76,13 +77,8 @@ HasSum l (value f) = f .sum ≡ totalOf l (countOf l + 5) % 256
 HasSum l (refused n) = Unit {0}
 
 has-sum : (l : List ℕ) → HasSum l (parseBody l)
-unfolding parseBody fieldsOf
-has-sum l =
-    pick-has (HasSum l) (eqb (getD l 0 0) 58) _ _
-    (λ _. pick-has (HasSum l) (eqb (length l) (countOf l * 2 + 11)) _ _
-    (λ _. pick-has (HasSum l) (ltb (sumOf l (countOf l + 5)) 256) _ _
-    (λ h. sum-so-far l (countOf l + 5) (all-pairs l (countOf l + 5) (ltb-true _ _ h))) (λ _. tt)) (λ _. tt))
-    (λ _. tt)
+unfolding fieldsBy
+has-sum l = parsed-has (HasSum l) l (λ h. sum-so-far l (countOf l + 5) (all-pairs l (countOf l + 5) h)) tt
 
 pub line-sum : (l : List ℕ) (f : Fields) → parseBody l ≡ value f → f .sum ≡ totalOf l (countOf l + 5) % 256
 line-sum l f e = rw e at (has-sum l)

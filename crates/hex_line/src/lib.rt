@@ -6,7 +6,7 @@ ghost use lib.ListN.{length, drop};
 ghost use Rattle.hex_line.specs.Record.{digitOf, joined, sumOf, parseBody, parsedOutcome, Small, bodyLength, bodyOf};
 ghost use Rattle.hex_line.specs.Sum.{AllPairs, totalOf};
 ghost use Rattle.hex_line.specs.Pairs.{Kept, countIn, addressIn, fieldsIn, storedFrom, KeptUnless};
-ghost use Rattle.hex_line.specs.Line.{bufferLength, begun, faultNumber, lineOutcome, readFields, readLine, lineBuffer};
+ghost use Rattle.hex_line.specs.Line.{bufferLength, begun, faultNumber, lineOutcome, checkedOutcome, checkFields, checkBody, placeFields, readFields, readLine, lineBuffer};
 
 // Where the last record ended, and whether the end line was read.
 pub struct Reader {
@@ -28,6 +28,12 @@ pub enum Fault {
 // A line that was read, with the reader behind it; or a refusal.
 pub enum Line {
     Read(Reader),
+    Refused(Fault),
+}
+
+// A line that breaks none of 1 to 3; or the first that it breaks.
+pub enum Checked {
+    Right,
     Refused(Fault),
 }
 
@@ -80,7 +86,7 @@ pub fn is_buffer_length(n: usize) -> bool
     base::is_certificate_length(n)
 }
 
-// The value of each character as a hexadecimal digit of either letter case, 16 of one that is none.
+// The value of each character as a hexadecimal digit, 0 to 9 or A to F; 16 of one that is none.
 const DIGITS: [u8; 256] = [
     16, // 00H
     16,
@@ -179,12 +185,12 @@ const DIGITS: [u8; 256] = [
     16,
     16,
     16, // 60H
-    10, // 61H: a
-    11,
-    12,
-    13,
-    14,
-    15,
+    16, // 61H: a
+    16,
+    16,
+    16,
+    16,
+    16, // 66H: f
     16,
     16,
     16,
@@ -441,42 +447,73 @@ pub fn parse(body: &[u8]) -> Parsed
     parse_pairs(body, &mut pairs)
 }
 
-// The answer to the fields of a well-formed line, for a buffer of this length.
-fn answer(reader: Reader, length: usize, f: Fields) -> Line
-    requires { ⌜ Small (Parsed.Formed f) ⌝ }
-    ensures { λ a. ⌜ lineOutcome a ≡ readFields reader length f ⌝ }
+// The faults of the fields themselves: a type 01 line other than the end line, the sum, the type.
+fn check_fields(f: Fields) -> Checked
+    ensures { λ r. ⌜ checkedOutcome r ≡ checkFields f ⌝ }
 {
     if f.kind == 1 {
         if f.count == 0 {
             if f.address == 0 {
                 if f.sum == 0 {
-                    return Line::Read(Reader {
-                        next: reader.next,
-                        ended: true,
-                    });
+                    return Checked::Right;
                 }
-                return Line::Refused(Fault::Malformed);
+                return Checked::Refused(Fault::Malformed);
             }
-            return Line::Refused(Fault::Malformed);
+            return Checked::Refused(Fault::Malformed);
         }
-        return Line::Refused(Fault::Malformed);
+        return Checked::Refused(Fault::Malformed);
     }
     if f.sum == 0 {
         if f.kind == 0 {
-            if reader.next <= f.address {
-                if f.address + f.count <= length {
-                    return Line::Read(Reader {
-                        next: f.address + f.count,
-                        ended: false,
-                    });
-                }
-                return Line::Refused(Fault::PastEnd);
-            }
-            return Line::Refused(Fault::Overlap);
+            return Checked::Right;
         }
-        return Line::Refused(Fault::BadType);
+        return Checked::Refused(Fault::BadType);
     }
-    Line::Refused(Fault::BadSum)
+    Checked::Refused(Fault::BadSum)
+}
+
+// 1 to 3 of a line without its end. They concern neither reader nor buffer.
+pub fn check_body(body: &[u8]) -> Checked
+    ensures { λ r. ⌜ checkedOutcome r ≡ checkBody (now (body .entry)) ⌝ }
+{
+    match parse(body) {
+        Parsed::Formed(f) => check_fields(f),
+        Parsed::Malformed => Checked::Refused(Fault::Malformed),
+    }
+}
+
+// The reader behind the end line or a record, if the record lies where it may.
+fn place(reader: Reader, length: usize, f: Fields) -> Line
+    requires { ⌜ Small (Parsed.Formed f) ⌝ }
+    ensures { λ a. ⌜ lineOutcome a ≡ placeFields reader length f ⌝ }
+{
+    if f.kind == 1 {
+        return Line::Read(Reader {
+            next: reader.next,
+            ended: true,
+        });
+    }
+    if reader.next <= f.address {
+        if f.address + f.count <= length {
+            return Line::Read(Reader {
+                next: f.address + f.count,
+                ended: false,
+            });
+        }
+        return Line::Refused(Fault::PastEnd);
+    }
+    Line::Refused(Fault::Overlap)
+}
+
+// The answer to the fields of a well-formed line, for a buffer of this length.
+fn answer(reader: Reader, length: usize, f: Fields) -> Line
+    requires { ⌜ Small (Parsed.Formed f) ⌝ }
+    ensures { λ a. ⌜ lineOutcome a ≡ readFields reader length f ⌝ }
+{
+    match check_fields(f) {
+        Checked::Right => place(reader, length, f),
+        Checked::Refused(fault) => Line::Refused(fault),
+    }
 }
 
 // How much of a line stands before its LF or CR LF.

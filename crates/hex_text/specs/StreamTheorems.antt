@@ -15,8 +15,8 @@ use Rattle.base.specs.Choice.{pick}
 use Rattle.base.specs.Formula.{le?, same?}
 use Rattle.base.specs.Outcome.{Outcome, andThen, onOutcome}
 use Rattle.base.specs.Outcome.Outcome.{value, refused}
-use Rattle.hex_line.specs.Record.{digitOf, pairAt, sumOf, countOf, fieldsOf, parseBody, bodyLength, bodyOf}
-use Rattle.hex_line.specs.Line.{bufferLength, begun, readFields, readLine, lineBuffer}
+use Rattle.hex_line.specs.Record.{digitOf, pairAt, sumOf, fieldsOf, parseBody, bodyLength, bodyOf, countBy, pairBy, parseBy, sumBy}
+use Rattle.hex_line.specs.Line.{bufferLength, begun, readFields, readLine, lineBuffer, readBy}
 use Rattle.hex_line.specs.LineLaws.{end-keeps}
 use Rattle.hex_line.specs.Refusals.{line-number, length-lineBuffer}
 use Rattle.hex_line.specs.declared.Reader.{Reader}
@@ -42,7 +42,7 @@ feed-append-buffer s (c ∷ a) b m =
 
 -- a pair is at most 256
 pair-small : (l : List ℕ) (k : ℕ) → pairAt l k < 257
-unfolding pairAt
+unfolding pairBy
 pair-small l k = by-test (ltb (digitOf (getD l k 0)) 16) refl (ltb (digitOf (getD l (k + 1) 0)) 16) refl
   where
     by-test : (a : Bool) → ltb (digitOf (getD l k 0)) 16 ≡ a → (b : Bool) → ltb (digitOf (getD l (k + 1) 0)) 16 ≡ b
@@ -54,13 +54,13 @@ pair-small l k = by-test (ltb (digitOf (getD l k 0)) 16) refl (ltb (digitOf (get
 
 -- a sum over a first pair that is none
 sum-none : (l : List ℕ) → pairAt l 1 ≡ 256 → (n : ℕ) → sumOf l (suc n) ≡ 256
-unfolding sumOf
+unfolding sumBy
 sum-none l e zero = rw e
 sum-none l e (suc n) = rw (sum-none l e n)
 
 -- no well-formed line has more than 521 characters before its end
 parse-long : (l : List ℕ) → 521 < length l → parseBody l ≡ refused 1
-unfolding parseBody countOf
+unfolding parseBy countBy
 parse-long l h = by-test (eqb (getD l 0 0) 58) (eqb (length l) (pairAt l 1 * 2 + 11)) refl
   where
     by-test : (a b : Bool) → eqb (length l) (pairAt l 1 * 2 + 11) ≡ b
@@ -85,7 +85,7 @@ body-bounds l = by-test (eqb (getD l (length l - 1) 0) 10) (eqb (getD l (length 
 
 -- a line longer than any valid one
 pub long-refused : (reader : Reader) (n : ℕ) (l : List ℕ) → longest < length l → readLine reader n l ≡ refused (longNumber reader n)
-unfolding readLine
+unfolding readBy
 long-refused reader n l h =
     let b = body-bounds l in
     let w : 521 < length (take (bodyLength l) l) = rw (length-take-le (bodyLength l) l (b .1)) (omega arith) in
@@ -99,7 +99,7 @@ long-refused reader n l h =
 -- a refusal of a line stands, since 7 is tested first
 refused-stands : (reader : Reader) (n : ℕ) (l : List ℕ) (k : ℕ) → readLine reader n l ≡ refused k
     → _≡_ {A = Outcome (Unit {0})} (pick (bufferLength n) (refused k) (refused 7)) (refused k)
-unfolding readLine
+unfolding readBy
 refused-stands reader n l k e = by-test (bufferLength n) e
   where
     by-test : (b : Bool) → pick b (pick (reader .ended) (refused 6) (andThen (parseBody (bodyOf l)) (readFields reader n))) (refused 7) ≡ refused k

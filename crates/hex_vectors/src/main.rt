@@ -228,6 +228,9 @@ fn main() {
     example(b":020100008FFF6F\n:020100008FFF6F");
     example(b":020FFF000102ED");
     example(b"");
+    example(b":020100008fFF6F\n:00000001FF"); // a small letter
+    example(b":00000001ff");
+    example(b":00000001FF\n:00000001ff"); // behind the end line
     example_without_end();
     example_of_length();
     two_faults();

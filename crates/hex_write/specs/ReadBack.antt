@@ -15,8 +15,8 @@ use Rattle.base.specs.ChoiceLaws.{pick-has}
 use Rattle.base.specs.Outcome.{Outcome, onOutcome}
 use Rattle.base.specs.Outcome.Outcome.{value, refused}
 use Rattle.base.specs.Lengths.{romLength, isImageLength}
-use Rattle.hex_line.specs.Record.{digitOf, joined, pairAt, sumOf, dataOf, countOf, addressOf, fieldsOf, parseBody, bodyLength, bodyOf}
-use Rattle.hex_line.specs.Line.{bufferLength, begun, readLine, stored, lineBuffer}
+use Rattle.hex_line.specs.Record.{digitOf, joined, pairAt, sumOf, dataOf, parseBody, bodyLength, bodyOf, addressBy, countBy, dataBy, fieldsBy, pairBy, parseBy, sumBy}
+use Rattle.hex_line.specs.Line.{bufferLength, begun, readLine, lineBuffer, bufferBy, readBy, storedBy}
 use Rattle.hex_line.specs.LineLaws.{sumOf-more}
 use Rattle.hex_line.specs.declared.Reader.{Reader}
 use Rattle.hex_line.specs.declared.Fields.{Fields}
@@ -63,7 +63,7 @@ byte-hex b h =
 
 -- two digits behind p
 pair-behind : (p rest : List ℕ) (h l i : ℕ) → length p ≡ i → pairAt (p ++ (h ∷ l ∷ rest)) i ≡ joined (digitOf h) (digitOf l)
-unfolding pairAt
+unfolding pairBy
 pair-behind p rest h l i e =
     let n : i + 1 ≡ length p + 1 = omega arith in
     rw (getD-at p h (l ∷ rest) 0 i e, n, getD-append-add p (h ∷ l ∷ rest) 1 0)
@@ -137,7 +137,7 @@ module _ (m : List ℕ) (k : ℕ) (low : k < recordCount) (byte : (i : ℕ) → 
   record-head j h = rw (lt-ltb _ _ h)
 
   sum-head : (n : ℕ) → n ≤ 20 → sumOf body n ≡ headSum m k n
-  unfolding sumOf headSum
+  unfolding sumBy headSum
   sum-head zero h = refl
   sum-head (suc n) h =
       let p : n < 20 = omega arith in
@@ -188,7 +188,7 @@ module _ (m : List ℕ) (k : ℕ) (low : k < recordCount) (byte : (i : ℕ) → 
   fields = record { count = 16; address = k * 16; kind = 0; sum = 0 }
 
   parsed : parseBody body ≡ value fields
-  unfolding parseBody fieldsOf countOf addressOf
+  unfolding parseBy fieldsBy countBy addressBy
   parsed = rw (colon, length-body, count-16, whole-sum, address-high, address-low, type-0, address)
 
   -- data byte n
@@ -205,7 +205,7 @@ module _ (m : List ℕ) (k : ℕ) (low : k < recordCount) (byte : (i : ℕ) → 
       rw (e, pair (n + 4) (omega arith), record-head (n + 4) (omega arith), ne-eqb _ _ c0, ne-eqb _ _ c1, ne-eqb _ _ c2, ne-eqb _ _ c3, d) s
 
   data-part : k * 16 + 16 ≤ length m → (n : ℕ) → n ≤ 16 → dataOf body n ≡ take n (drop (k * 16) m)
-  unfolding dataOf
+  unfolding dataBy
   data-part r zero h = refl
   data-part r (suc n) h =
       let l : n < length (drop (k * 16) m) = omega (arith, length-drop (k * 16) m) in
@@ -232,14 +232,14 @@ module _ (m : List ℕ) (k : ℕ) (low : k < recordCount) (byte : (i : ℕ) → 
 
   module _ (size : ℕ) (good : bufferLength size ≡ true) (fits : k * 16 + 16 ≤ size) where
     answered : readLine before size (recordLine m k) ≡ value after
-    unfolding readLine
+    unfolding readBy
     answered =
         let p : k * 16 ≤ k * 16 = omega arith in
         rw (good, body-line, parsed, le-leb _ _ p, le-leb _ _ fits)
 
     placed : (m₀ : List ℕ) → length m ≡ size → length m₀ ≡ size
         → lineBuffer before (recordLine m k) (take (k * 16) m ++ drop (k * 16) m₀) ≡ take (k * 16 + 16) m ++ drop (k * 16 + 16) m₀
-    unfolding lineBuffer stored countOf addressOf
+    unfolding bufferBy storedBy countBy addressBy
     placed m₀ s s₀ =
         let t : length (take (k * 16) m) ≡ k * 16 = length-take-le (k * 16) m (omega arith) in
         rw (
@@ -282,11 +282,11 @@ lines-records m (suc k) t =
 
 -- the end line is read, and leaves the buffer
 read-end : (r : Reader) → r .ended ≡ false → (size : ℕ) → bufferLength size ≡ true → linesAnswer (lines endLine) r size ≡ value tt
-unfolding lines linesAnswer readLine parseBody fieldsOf countOf addressOf pairAt sumOf dataOf bodyLength
+unfolding lines linesAnswer readBy parseBy fieldsBy countBy addressBy pairBy sumBy dataBy bodyLength
 read-end r e size good = rw (good, e)
 
 end-buffer : (r : Reader) → r .ended ≡ false → (x : List ℕ) → bufferLength (length x) ≡ true → linesBuffer (lines endLine) r x ≡ x
-unfolding lines linesBuffer readLine lineBuffer stored parseBody fieldsOf countOf addressOf pairAt sumOf dataOf bodyLength
+unfolding lines linesBuffer readBy bufferBy storedBy parseBy fieldsBy countBy addressBy pairBy sumBy dataBy bodyLength
 end-buffer r e x good = rw (good, e)
 
 module _ (m m₀ : List ℕ) (size : ℕ) (good : bufferLength size ≡ true) (s : length m ≡ size) (s₀ : length m₀ ≡ size)

@@ -1,6 +1,6 @@
 -- `called_for`: the pair behind the colon.
 -- Assumes nothing.
-use Rattle.hex_line.specs.Record.{pairAt, countOf}
+use Rattle.hex_line.specs.Record.{countBy, pairBy}
 use borrow.Author.Needs.{needs}
 use Rattle.hex_fault.proofs.called_for.Statement.{statement}
 use Rattle.hex_fault.proofs.called_for.Tie as tie
@@ -30,7 +30,7 @@ add-result : tie.Need-add-result
 add-result c = search needs
 
 returns : tie.Need-returns
-unfolding countOf pairAt
+unfolding countBy pairBy
 returns c =
     let low = c .before in
     let high = low .before .before in

@@ -1,6 +1,6 @@
 -- `last_pair`: the two digits before the end.
 -- Assumes nothing.
-use Rattle.hex_line.specs.Record.{pairAt}
+use Rattle.hex_line.specs.Record.{pairBy}
 use Rattle.hex_fault.specs.Finding.{lastPair}
 use borrow.Author.Needs.{needs}
 use Rattle.hex_fault.proofs.last_pair.Statement.{statement}
@@ -28,7 +28,7 @@ join-requires : tie.Need-join-requires
 join-requires c κs = search needs
 
 returns : tie.Need-returns
-unfolding lastPair pairAt
+unfolding lastPair pairBy
 returns c =
     let low = c .before in
     let high = low .before .before in (

@@ -1,55 +1,30 @@
--- `answer`: each return by the tests that led there.
+-- `answer`: the faults of the fields themselves, then where the record lies.
 -- Assumes nothing.
-use Rattle.base.specs.Tests.{tests}
+use mathlib.Core.Path.{sym, ap, _∙_}
+use Rattle.hex_line.specs.Line.{checkedOutcome}
 use borrow.Author.Needs.{needs}
 use Rattle.hex_line.proofs.answer.Statement.{statement}
 use Rattle.hex_line.proofs.answer.Tie as tie
 
+check-fields-requires : tie.Need-check-fields-requires
+check-fields-requires c κs = search needs
+
+enum-told : tie.Need-enum-told
+enum-told c = search needs
+
+place-requires : tie.Need-place-requires
+place-requires c κs = search needs
+
+enum-known-fault : tie.Need-enum-known-fault
+enum-known-fault c = search needs
+
 returns : tie.Need-returns
-returns c = search tests
+returns c =
+    let told = c .before in
+    rw (sym (told .before .before .check-fields .ensures) ∙ ap checkedOutcome (told .enum-told .given .1)) (c .place .ensures)
 
 returns-2 : tie.Need-returns-2
-returns-2 c = search tests
-
-returns-3 : tie.Need-returns-3
-returns-3 c = search tests
-
-returns-4 : tie.Need-returns-4
-returns-4 c = search tests
-
-add-if8 : tie.Need-add-if8
-add-if8 c = search needs
-
-add-t16 : tie.Need-add-t16
-add-t16 c = search needs
-
-returns-5 : tie.Need-returns-5
-returns-5 c = search tests
-
-returns-6 : tie.Need-returns-6
-returns-6 c = search tests
-
-returns-7 : tie.Need-returns-7
-returns-7 c = search tests
-
-returns-8 : tie.Need-returns-8
-returns-8 c = search tests
-
-returns-9 : tie.Need-returns-9
-returns-9 c = search tests
+returns-2 c = rw (sym (c .before .before .before .check-fields .ensures) ∙ ap checkedOutcome (c .before .fault .given .1))
 
 pub answer-spec : {M : Type 1} → statement M
-answer-spec =
-    tie.close
-    (tie.spec
-    returns
-    returns-2
-    returns-3
-    returns-4
-    add-if8
-    add-t16
-    returns-5
-    returns-6
-    returns-7
-    returns-8
-    returns-9)
+answer-spec = tie.close (tie.spec check-fields-requires enum-told place-requires enum-known-fault returns returns-2)

@@ -7,7 +7,7 @@ use Rattle.base.specs.Outcome.{Outcome, andThen}
 use Rattle.hex_line.specs.declared.Fields.{Fields}
 use Rattle.hex_line.specs.Record.{parsedOutcome}
 use Rattle.hex_line.specs.PairLaws.{kept-anyway}
-use Rattle.hex_line.specs.Line.{lineOutcome, readFields, readLine}
+use Rattle.hex_line.specs.Line.{lineOutcome, readFields, readLine, readBy}
 use Rattle.hex_line.specs.LineLaws.{read-parsed}
 use borrow.Author.Needs.{needs}
 use Rattle.hex_line.proofs.decide.Statement.{statement}
@@ -17,7 +17,7 @@ is-buffer-length-requires : tie.Need-is-buffer-length-requires
 is-buffer-length-requires c κs = search needs
 
 returns : tie.Need-returns
-unfolding readLine
+unfolding readBy
 returns c = (rw (sym (c .before .before .is-buffer-length .ensures) ∙ c .before .if1 .taken, c .if2 .taken), tt)
 
 body-length-requires : tie.Need-body-length-requires
@@ -72,7 +72,7 @@ returns-3 : tie.Need-returns-3
 returns-3 c = (answered (c .before .before .before .before) _ (ap parsedOutcome (c .enum-told .given .1)), tt)
 
 returns-4 : tie.Need-returns-4
-unfolding readLine
+unfolding readBy
 returns-4 c = (rw (sym (c .before .is-buffer-length .ensures) ∙ c .if1 .left), tt)
 
 pub decide-spec : {M : Type 1} → statement M

@@ -1,7 +1,7 @@
 -- `read_line`: the answer is that of `decide`; a line that is read fits into the buffer, and its pairs were kept.
 -- Assumes nothing.
 use mathlib.Core.Path.{sym, ap, _∙_}
-use Rattle.hex_line.specs.Line.{lineOutcome, lineBuffer}
+use Rattle.hex_line.specs.Line.{lineOutcome, bufferBy}
 use Rattle.hex_line.specs.LineLaws.{read-within}
 use Rattle.hex_line.specs.ParseLaws.{kept-fits, kept-stored}
 use borrow.Author.Needs.{needs}
@@ -35,7 +35,7 @@ same-length : tie.Need-same-length
 same-length c = search needs
 
 returns : tie.Need-returns
-unfolding lineBuffer
+unfolding bufferBy
 returns c =
     let read = c .before .before .before .before .before .before in
     let decided = read .before .before .before in
@@ -45,7 +45,7 @@ returns c =
     (sym answer, rw answer (c .before .before .store .ensures ∙ stores))
 
 returns-2 : tie.Need-returns-2
-unfolding lineBuffer
+unfolding bufferBy
 returns-2 c =
     let e = sym (c .before .before .before .before .decide .ensures .0) ∙ ap lineOutcome (c .before .fault .given .1) in
     (sym e, rw e)

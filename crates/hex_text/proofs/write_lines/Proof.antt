@@ -4,7 +4,7 @@ use denote.Ref.{now}
 use mathlib.Core.Path.{_≡_, refl, sym, ap, _∙_}
 use Prim.Native.Nat.{_≤_, _-_}
 use lib.ListN.{length, drop, drop-of-length-le}
-use Rattle.hex_line.specs.Line.{begun, lineOutcome, lineBuffer}
+use Rattle.hex_line.specs.Line.{begun, lineOutcome, lineBuffer, bufferBy}
 use Rattle.hex_text.specs.Text.{lines, linesBuffer}
 use Rattle.hex_text.specs.TextLaws.{turn}
 use borrow.Author.Needs.{needs}
@@ -70,7 +70,7 @@ same-length c =
     lent .buffer .given ∙ lent .before .before .before .before .before .before .loop .inv .2
 
 returns : tie.Need-returns Inv-loop μ-loop
-unfolding linesBuffer lineBuffer
+unfolding linesBuffer bufferBy
 returns c =
     let read = c .before .before .before .before in
     let line = read .before .before .before in

@@ -1,0 +1,3 @@
+pub mod Former
+pub mod Upper
+pub mod UpperLaws
