@@ -1,5 +1,5 @@
-// Copies Intel HEX from standard input to standard output, its lines in upper case. At the first line that is refused it ends, and tells the line and the
-// number on standard error.
+// Copies Intel HEX from standard input to standard output, its lines in upper case. A line that is refused is copied as it is, told of on standard error
+// by line and number, and is the last.
 ghost use Prim.Native.Nat.{_≤_};
 ghost use lib.ListN.{length};
 use hex_upper::Upper;
@@ -35,15 +35,21 @@ fn tell(at: u64, number: u8) {
     io::write_all(STDERR_FILENO, b"\n");
 }
 
-// Whether a line was converted and written.
-fn write_line(line: &mut [u8], at: u64) -> bool {
+// Whether a line was converted. A refused one is told of.
+fn convert(line: &mut [u8], at: u64) -> bool {
     match hex_upper::upper_line(line) {
-        Upper::Converted => io::write_all(STDOUT_FILENO, line),
+        Upper::Converted => true,
         Upper::Refused(fault) => {
             tell(at, hex_line::number(fault));
             false
         }
     }
+}
+
+// Converts a line and writes it; a refused one is written as it is. Whether it was converted and written.
+fn write_line(line: &mut [u8], at: u64) -> bool {
+    let converted = convert(line, at);
+    io::write_all(STDOUT_FILENO, line) & converted
 }
 
 // Whether there was a next line, and it was converted and written. The buffer is longer than any line that is not refused.
