@@ -51,7 +51,7 @@ use Rattle.hex_write.specs.ImageText.{textLength, writeAnswer, writeBuffer}
 use Rattle.hex_write.specs.Refusals.{write-number, write-unchanged, length-writeBuffer}
 use Rattle.hex_write.specs.ReadBack.{ReadsBack, written-whole, write-reads-back}
 use Rattle.hex_upper.specs.Upper.{upperAnswer, upperLine}
-use Rattle.hex_upper.specs.UpperLaws.{upper-number, upper-unchanged, upper-length}
+use Rattle.hex_upper.specs.UpperTheorems.{upper-number, upper-unchanged, upper-length}
 use Rattle.certificate.specs.declared.Verdict.{Verdict}
 use Rattle.certificate.specs.declared.Verdict.the-variants.{Accepted, Refused}
 use Rattle.certificate.specs.Layout.{certificateOf}

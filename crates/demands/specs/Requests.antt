@@ -1,6 +1,6 @@
 -- The requests of document 02 that have landed, word for word, with what each states as a theorem over the definitions.
 -- Assumes nothing.
-use Prim.Native.Nat.{ℕ, _+_, _-_, _%_}
+use Prim.Native.Nat.{ℕ, _+_, _-_, _%_, _≤_}
 use mathlib.Core.Path.{_≡_}
 use mathlib.Core.Bool.{true, false}
 use mathlib.Core.List.{List}
@@ -12,9 +12,9 @@ use Rattle.hex_line.specs.Record.{sumOf, countOf, parseBody, bodyLength}
 use Rattle.hex_line.specs.Line.{bufferLength, readLine, lineBuffer}
 use Rattle.hex_line.specs.Sum.{AllPairs, totalOf}
 use Rattle.hex_line.specs.SumLaws as sums
-use Rattle.hex_upper.specs.Former.{isSmall, formerLine, formerBuffer}
+use Rattle.hex_upper.specs.Former.{smallLetter, formerLine, formerBuffer}
 use Rattle.hex_upper.specs.Upper.{upperAnswer, upperLine}
-use Rattle.hex_upper.specs.UpperLaws as upper
+use Rattle.hex_upper.specs.UpperTheorems as upper
 
 -- Request 02. Add up the line while reading it. The crew wants the line sum gathered as each pair of digits is read, however it is done now, so that
 -- the work follows the order of the text. After any number of pairs the sum so far is proved to be theirs modulo 256. Every line, with two faults too,
@@ -28,7 +28,7 @@ sum-so-far = sums.sum-so-far
 pub line-sum : (line : List ℕ) (f : Fields) → parseBody line ≡ value f → f .sum ≡ totalOf line (countOf line + 5) % 256
 line-sum = sums.line-sum
 
--- every line keeps its answer: `readLine` and `lineBuffer`, which the contracts of `check_line` and `read_line` name, are as they were
+-- every line kept its answer: this request left `readLine` and `lineBuffer`, which the contracts of `check_line` and `read_line` name, as they were
 
 -- Request 13. Lower-case HEX goes. Our programmers' sockets reject small letters, and mixed files caused returned chips. From now on the reader refuses
 -- them. For files already in the drawer one separate call turns in place an old line that breaks none of 1 to 3 as they stood into its upper-case line;
@@ -37,7 +37,7 @@ line-sum = sums.line-sum
 
 -- the reader is `readLine`, `lineBuffer`, by which texts and pieces are read too: a line with a small letter anywhere is 1, unless 7 or 6 stands before it
 pub small-letter-refused : (reader : Reader) (size : ℕ) (line : List ℕ) (i : ℕ) → bufferLength size ≡ true → reader .ended ≡ false
-    → isSmall (getD line i 0) ≡ true → readLine reader size line ≡ refused 1
+    → smallLetter (getD line i 0) ≡ true → readLine reader size line ≡ refused 1
 small-letter-refused = upper.small-refused
 
 -- the separate call is `hex_upper::upper_line`: it answers `upperAnswer` of a line and leaves `upperLine`. The former reader is `formerLine`, `formerBuffer`.
@@ -49,18 +49,27 @@ converted-line-read line e reader buffer =
     (upper.converted-read line e reader (length buffer), upper.converted-buffer line e reader buffer)
 
 -- a small letter of a converted line becomes its upper-case letter; the call changes no other character, neither the line's length nor its end
-pub letter-converted : (line : List ℕ) (i : ℕ) → upperAnswer line ≡ value tt → isSmall (getD line i 0) ≡ true
+pub letter-converted : (line : List ℕ) (i : ℕ) → upperAnswer line ≡ value tt → smallLetter (getD line i 0) ≡ true
     → getD (upperLine line) i 0 ≡ getD line i 0 - 32
 letter-converted = upper.upper-letters
 
-pub other-characters-stay : (line : List ℕ) (i : ℕ) → isSmall (getD line i 0) ≡ false → getD (upperLine line) i 0 ≡ getD line i 0
+pub other-characters-stay : (line : List ℕ) (i : ℕ) → smallLetter (getD line i 0) ≡ false → getD (upperLine line) i 0 ≡ getD line i 0
 other-characters-stay = upper.upper-others
 
 pub length-stays : (line : List ℕ) → (length (upperLine line) ≡ length line) × (bodyLength (upperLine line) ≡ bodyLength line)
 length-stays line = (upper.upper-length line, upper.upper-end line)
 
-pub without-small-letters : (line : List ℕ) → ((i : ℕ) → isSmall (getD line i 0) ≡ false) → upperLine line ≡ line
+pub without-small-letters : (line : List ℕ) → ((i : ℕ) → smallLetter (getD line i 0) ≡ false) → upperLine line ≡ line
 without-small-letters = upper.upper-same
 
--- `:00000001ff` becomes the end line: `end-line-converted` of `hex_upper`.
--- A line that breaks 1, 2 or 3 as they stood is refused by that number and left as it was: `upper-line-lends` of `Demands.antt`
+-- 1 to 3 as they stood: the call refuses exactly the lines that the former reader, with a buffer of the right length and no end line read, refused by 1
+-- to 3, by the same number. A refused line is left as it was: `upper-line-lends` of `Demands.antt`
+pub refused-as-before : (reader : Reader) (size : ℕ) → bufferLength size ≡ true → reader .ended ≡ false → (line : List ℕ) (n : ℕ)
+    → upperAnswer line ≡ refused n → formerLine reader size line ≡ refused n
+refused-as-before = upper.refused-as-before
+
+pub refused-before : (reader : Reader) (size : ℕ) → bufferLength size ≡ true → reader .ended ≡ false → (line : List ℕ) (n : ℕ)
+    → formerLine reader size line ≡ refused n → n ≤ 3 → upperAnswer line ≡ refused n
+refused-before = upper.refused-before
+
+-- `:00000001ff` becomes the end line: `end-line-converted` of `hex_upper`

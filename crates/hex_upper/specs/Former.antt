@@ -11,12 +11,12 @@ use Rattle.hex_line.specs.Record.{digitOf}
 use Rattle.hex_line.specs.Line.{checkBy, readBy, bufferBy}
 
 -- a to f
-abbrev pub isSmall : ℕ → Bool
-isSmall c = leb 97 c && ltb c 103
+abbrev pub smallLetter : ℕ → Bool
+smallLetter c = leb 97 c && ltb c 103
 
 -- the value of a digit of either letter case
 abbrev pub formerDigit : ℕ → ℕ
-formerDigit c = pick (isSmall c) (c - 87) (digitOf c)
+formerDigit c = pick (smallLetter c) (c - 87) (digitOf c)
 
 -- 1 to 3 as they stood, of a line without its end
 abbrev pub formerCheck : List ℕ → Outcome (Unit {0})

@@ -1,3 +1,4 @@
 pub mod Former
 pub mod Upper
 pub mod UpperLaws
+pub mod UpperTheorems

@@ -7,7 +7,7 @@ use Rattle.base.specs.Outcome.{Outcome, onOutcome}
 use Rattle.base.specs.Outcome.Outcome.{value, refused}
 use Rattle.hex_line.specs.Record.{bodyOf}
 use Rattle.hex_line.specs.Line.{faultNumber}
-use Rattle.hex_upper.specs.Former.{isSmall, formerCheck}
+use Rattle.hex_upper.specs.Former.{smallLetter, formerCheck}
 use Rattle.hex_upper.specs.declared.Upper.{Upper}
 
 abbrev pub upperOutcome : Upper → Outcome (Unit {0})
@@ -16,7 +16,7 @@ upperOutcome (Upper.Refused fault) = refused (faultNumber fault)
 
 -- the upper-case letter of a to f; any other character as it is
 abbrev pub upperOf : ℕ → ℕ
-upperOf c = pick (isSmall c) (c - 32) c
+upperOf c = pick (smallLetter c) (c - 32) c
 
 -- a line that breaks none of 1 to 3 as they stood is converted
 abbrev pub upperAnswer : List ℕ → Outcome (Unit {0})

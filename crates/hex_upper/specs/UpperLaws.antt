@@ -1,4 +1,4 @@
--- The reader treats an upper-case line as the former one treated the old line (request 13), and the call changes nothing but the letters a to f.
+-- Upper-case lines: what is read of one is what the former reader read of the old line (request 13).
 -- Assumes nothing.
 use Prim.Native.Nat.{ℕ, zero, suc, _+_, _-_, _*_, _≤_, _<_}
 use mathlib.Core.Path.{_≡_, refl, sym, ap, _∙_}
@@ -9,54 +9,53 @@ use native.Mathlib.Numerals.{add-one}
 use native.Mathlib.Omega.{arith}
 use lib.Dec.{eqb}
 use lib.ListN.{length, getD, take, drop, set, length-map, List·getD-eq-default}
-use lib.Seq.{length-take-le, take-suc, drop-cons, getD-at, getD-take, ext-getD}
+use lib.Seq.{length-take-le, take-suc, drop-cons, getD-at}
 use borrow.Author.Tests.{eqb-true, ne-eqb, lt-ltb, le-ltb}
 use Rattle.base.specs.Choice.{pick}
 use Rattle.base.specs.ChoiceLaws.{pick-has}
 use Rattle.base.specs.Lists.{store-next}
 use Rattle.base.specs.Formula.{le, lt, _&_, sound, of-true, same?, le?}
-use Rattle.base.specs.Outcome.{Outcome, onOutcome}
 use Rattle.base.specs.Outcome.Outcome.{value, refused}
 use Rattle.hex_line.specs.declared.Reader.{Reader}
 use Rattle.hex_line.specs.Record.{digitOf, pairBy, sumBy, countBy, addressBy, fieldsBy, dataBy, parseBy, pairAt, sumOf, countOf, addressOf, dataOf, parseBody, bodyLength, bodyOf}
-use Rattle.hex_line.specs.Line.{bufferLength, checkBy, readBy, storedBy, bufferBy, checkBody, readLine, stored, lineBuffer}
-use Rattle.hex_line.specs.LineLaws.{read-parsed}
-use Rattle.hex_line.specs.ParseLaws.{refused-colon, refused-length, refused-long, refused-character}
-use Rattle.hex_line.specs.Refusals.{check-number}
-use Rattle.hex_upper.specs.Former.{isSmall, formerDigit, formerCheck, formerLine, formerBuffer}
-use Rattle.hex_upper.specs.Upper.{upperOf, upperAnswer, upperLine}
+use Rattle.hex_line.specs.Line.{checkBy, readBy, storedBy, bufferBy, checkBody, readLine, stored, lineBuffer}
+use Rattle.hex_line.specs.ParseLaws.{refused-length, refused-long}
+use Rattle.hex_upper.specs.Former.{smallLetter, formerDigit, formerCheck, formerLine, formerBuffer}
+use Rattle.hex_upper.specs.Upper.{upperOf}
 
 -- characters
-small-range : (c : ℕ) → isSmall c ≡ true → (97 ≤ c) × (c < 103)
+small-range : (c : ℕ) → smallLetter c ≡ true → (97 ≤ c) × (c < 103)
 small-range c e = sound (le 97 c & lt c 103) (of-true _ e)
+
+-- a small letter, or another character
+letter-cases : (c : ℕ) (P : Bool → Type 0) → ((97 ≤ c) × (c < 103) → P true) → P false → P (smallLetter c)
+letter-cases c P small other = by-test (smallLetter c) refl
+  where
+    by-test : (t : Bool) → smallLetter c ≡ t → P t
+    by-test true e = small (small-range c e)
+    by-test false e = other
 
 -- a small letter has the value of its upper-case letter
 digit-upper : (c : ℕ) → digitOf (upperOf c) ≡ formerDigit c
-digit-upper c = by-test (isSmall c) refl
-  where
-    by-test : (t : Bool) → isSmall c ≡ t → digitOf (pick t (c - 32) c) ≡ pick t (c - 87) (digitOf c)
-    by-test false e = refl
-    by-test true e =
-        let r = small-range c e in
-        let low : 65 ≤ c - 32 = omega arith in
-        let a : 48 ≤ c - 32 = omega arith in
-        let b : 58 ≤ c - 32 = omega arith in
-        let high : c - 32 < 71 = omega arith in
-        rw (le-ltb _ _ a, le-ltb _ _ b, le-ltb _ _ low, lt-ltb _ _ high) (omega arith)
+digit-upper c =
+    letter-cases c (λ (t : Bool). digitOf (pick t (c - 32) c) ≡ pick t (c - 87) (digitOf c))
+    (λ r. let a : 48 ≤ c - 32 = omega arith in
+    let b : 58 ≤ c - 32 = omega arith in
+    let d : 65 ≤ c - 32 = omega arith in
+    let f : c - 32 < 71 = omega arith in
+    rw (le-ltb _ _ a, le-ltb _ _ b, le-ltb _ _ d, lt-ltb _ _ f) (omega arith))
+    refl
 
 -- neither it nor its upper-case letter is a colon, CR or LF
 eqb-upper : (c k : ℕ) → k < 65 → eqb (upperOf c) k ≡ eqb c k
-eqb-upper c k h = by-test (isSmall c) refl
-  where
-    by-test : (t : Bool) → isSmall c ≡ t → eqb (pick t (c - 32) c) k ≡ eqb c k
-    by-test false e = refl
-    by-test true e =
-        let r = small-range c e in
-        let a : c - 32 ≡ k → ⊥ = λ q. omega (arith, q) in
-        let b : c ≡ k → ⊥ = λ q. omega (arith, q) in
-        rw (ne-eqb _ _ a, ne-eqb _ _ b)
+eqb-upper c k h =
+    letter-cases c (λ (t : Bool). eqb (pick t (c - 32) c) k ≡ eqb c k)
+    (λ r. let a : c - 32 ≢ k = λ q. omega (arith, q) in
+    let b : c ≢ k = λ q. omega (arith, q) in
+    rw (ne-eqb _ _ a, ne-eqb _ _ b))
+    refl
 
-digit-none : (c : ℕ) → isSmall c ≡ true → digitOf c ≡ 16
+pub digit-none : (c : ℕ) → smallLetter c ≡ true → digitOf c ≡ 16
 digit-none c e =
     let r = small-range c e in
     let a : 48 ≤ c = omega arith in
@@ -66,7 +65,7 @@ digit-none c e =
     rw (le-ltb _ _ a, le-ltb _ _ b, le-ltb _ _ d, le-ltb _ _ f)
 
 -- lines
-getD-upper : (l : List ℕ) (k : ℕ) → getD (map upperOf l) k 0 ≡ upperOf (getD l k 0)
+pub getD-upper : (l : List ℕ) (k : ℕ) → getD (map upperOf l) k 0 ≡ upperOf (getD l k 0)
 getD-upper [] k = refl
 getD-upper (c ∷ l) zero = refl
 getD-upper (c ∷ l) (suc k) = getD-upper l k
@@ -111,7 +110,7 @@ parse-upper l =
       pair-upper l 7,
     )
 
-bodyLength-upper : (l : List ℕ) → bodyLength (map upperOf l) ≡ bodyLength l
+pub bodyLength-upper : (l : List ℕ) → bodyLength (map upperOf l) ≡ bodyLength l
 unfolding bodyLength
 bodyLength-upper l =
     rw (
@@ -142,7 +141,7 @@ unfolding checkBy
 former-long l h = rw (← parse-upper l, too-long (map upperOf l) (rw (length-map l upperOf) h))
 
 -- the reader's answer to the upper-case line, and the buffer behind it, are the former ones to the old line
-read-upper : (reader : Reader) (size : ℕ) (l : List ℕ) → readLine reader size (map upperOf l) ≡ formerLine reader size l
+pub read-upper : (reader : Reader) (size : ℕ) (l : List ℕ) → readLine reader size (map upperOf l) ≡ formerLine reader size l
 unfolding readBy
 read-upper reader size l = rw (body-upper l, parse-upper (bodyOf l))
 
@@ -150,57 +149,27 @@ stored-upper : (body m : List ℕ) → stored (map upperOf body) m ≡ storedBy 
 unfolding storedBy
 stored-upper body m = rw (address-upper body, count-upper body, data-upper body (countBy formerDigit body))
 
-buffer-upper : (reader : Reader) (l m : List ℕ) → lineBuffer reader (map upperOf l) m ≡ formerBuffer reader l m
+pub buffer-upper : (reader : Reader) (l m : List ℕ) → lineBuffer reader (map upperOf l) m ≡ formerBuffer reader l m
 unfolding bufferBy
 buffer-upper reader l m = rw (read-upper reader (length m) l, body-upper l, stored-upper (bodyOf l) m)
 
--- the line behind the call
-pub converted : (l : List ℕ) → upperAnswer l ≡ value tt → upperLine l ≡ map upperOf l
-unfolding upperLine
-converted l e = rw e
+-- a small letter stands in a line, and not in its end
+pub inside : (l : List ℕ) (i : ℕ) → smallLetter (getD l i 0) ≡ true → i < length l
+inside l i e =
+    ⊎-elim (λ (h : length l ≤ i). absurd (false≢true (rw (List·getD-eq-default l 0 {n = i} h) at e))) (λ (h : i < length l). h) (le? (length l) i)
 
-pub converted-read : (l : List ℕ) → upperAnswer l ≡ value tt → (reader : Reader) (size : ℕ)
-    → readLine reader size (upperLine l) ≡ formerLine reader size l
-converted-read l e reader size = rw (converted l e) (read-upper reader size l)
-
-pub converted-buffer : (l : List ℕ) → upperAnswer l ≡ value tt → (reader : Reader) (m : List ℕ)
-    → lineBuffer reader (upperLine l) m ≡ formerBuffer reader l m
-converted-buffer l e reader m = rw (converted l e) (buffer-upper reader l m)
-
--- a refused line is as it was, and the number is 1, 2 or 3
-pub upper-unchanged : (l : List ℕ) (n : ℕ) → upperAnswer l ≡ refused n → upperLine l ≡ l
-unfolding upperLine
-upper-unchanged l n e = rw e
-
-pub upper-number : (l : List ℕ) (n : ℕ) → upperAnswer l ≡ refused n → (1 ≤ n) × (n ≤ 3)
-upper-number l n e = check-number (map upperOf (bodyOf l)) n (check-upper (bodyOf l) ∙ e)
-
--- what holds of the old line and of the upper-case line holds of the line behind the call
-either-line : (P : List ℕ → Type 0) (l : List ℕ) → P (map upperOf l) → P l → P (upperLine l)
-unfolding upperLine
-either-line P l u o = by-answer (upperAnswer l)
+pub before-end : (l : List ℕ) (i : ℕ) → smallLetter (getD l i 0) ≡ true → i < bodyLength l
+unfolding bodyLength
+before-end l i e =
+    let b = inside l i e in
+    pick-has (λ (n : ℕ). i < n) (eqb (getD l (length l - 1) 0) 10) _ _
+    (λ feed. let d = other (length l - 1) 10 refl (eqb-true _ _ feed) in
+    pick-has (λ (n : ℕ). i < n) (eqb (getD l (length l - 2) 0) 13) _ _
+    (λ return. let r = other (length l - 2) 13 refl (eqb-true _ _ return) in omega (arith, d, r)) (λ _. omega (arith, d)))
+    (λ _. b)
   where
-    by-answer : (a : Outcome (Unit {0})) → P (onOutcome a (λ _. map upperOf l) (λ number. l))
-    by-answer (value t) = u
-    by-answer (refused n) = o
-
--- nothing but the letters a to f changes: not the length, no other character, not the line's end
-pub upper-length : (l : List ℕ) → length (upperLine l) ≡ length l
-upper-length l = either-line (λ (t : List ℕ). length t ≡ length l) l (length-map l upperOf) refl
-
-pub upper-others : (l : List ℕ) (i : ℕ) → isSmall (getD l i 0) ≡ false → getD (upperLine l) i 0 ≡ getD l i 0
-upper-others l i e = either-line (λ (t : List ℕ). getD t i 0 ≡ getD l i 0) l (getD-upper l i ∙ rw e) refl
-
-pub upper-end : (l : List ℕ) → bodyLength (upperLine l) ≡ bodyLength l
-upper-end l = either-line (λ (t : List ℕ). bodyLength t ≡ bodyLength l) l (bodyLength-upper l) refl
-
--- so a line without small letters comes back as it was
-pub upper-same : (l : List ℕ) → ((i : ℕ) → isSmall (getD l i 0) ≡ false) → upperLine l ≡ l
-upper-same l none = ext-getD 0 (upperLine l) l (upper-length l) (λ i _. upper-others l i (none i))
-
--- and a small letter of a converted line is its upper-case letter
-pub upper-letters : (l : List ℕ) (i : ℕ) → upperAnswer l ≡ value tt → isSmall (getD l i 0) ≡ true → getD (upperLine l) i 0 ≡ getD l i 0 - 32
-upper-letters l i a e = rw (converted l a, getD-upper l i, e)
+    other : (k c : ℕ) → smallLetter c ≡ false → getD l k 0 ≡ c → i ≢ k
+    other k c none q p = false≢true (sym none ∙ rw (p, q) at e)
 
 -- a line that is upper-case up to i: the next character, and one more
 module _ (l : List ℕ) (i : ℕ) (h : i < length l) where
@@ -215,40 +184,3 @@ module _ (l : List ℕ) (i : ℕ) (h : i < length l) where
 
   pub one-more : set (done ++ drop i l) i (upperOf (getD l i 0)) ≡ map upperOf (take (i + 1) l) ++ drop (i + 1) l
   one-more = store-next done l i (upperOf (getD l i 0)) length-done h ∙ rw (add-one i, take-suc l i 0 h, map-append upperOf (take i l) (getD l i 0 ∷ []))
-
--- a small letter stands in a line, and not in its end
-inside : (l : List ℕ) (i : ℕ) → isSmall (getD l i 0) ≡ true → i < length l
-inside l i e =
-    ⊎-elim (λ (h : length l ≤ i). absurd (false≢true (rw (List·getD-eq-default l 0 {n = i} h) at e))) (λ (h : i < length l). h) (le? (length l) i)
-
-before-end : (l : List ℕ) (i : ℕ) → isSmall (getD l i 0) ≡ true → i < bodyLength l
-unfolding bodyLength
-before-end l i e =
-    let b = inside l i e in
-    pick-has (λ (n : ℕ). i < n) (eqb (getD l (length l - 1) 0) 10) _ _
-    (λ feed. let d = other (length l - 1) 10 refl (eqb-true _ _ feed) in
-    pick-has (λ (n : ℕ). i < n) (eqb (getD l (length l - 2) 0) 13) _ _
-    (λ return. let r = other (length l - 2) 13 refl (eqb-true _ _ return) in omega (arith, d, r)) (λ _. omega (arith, d)))
-    (λ _. b)
-  where
-    other : (k c : ℕ) → isSmall c ≡ false → getD l k 0 ≡ c → i ≢ k
-    other k c none q p = false≢true (sym none ∙ rw (p, q) at e)
-
--- the reader refuses a line with a small letter by 1, unless 7 or 6 stands before it
-pub small-refused : (reader : Reader) (size : ℕ) (l : List ℕ) (i : ℕ) → bufferLength size ≡ true → reader .ended ≡ false
-    → isSmall (getD l i 0) ≡ true → readLine reader size l ≡ refused 1
-small-refused reader size l i b d e =
-    let body = bodyOf l in
-    let kept : isSmall (getD body i 0) ≡ true = rw (getD-take (bodyLength l) l i 0 (before-end l i e)) e in
-    let none = digit-none (getD body i 0) kept in
-    sym
-    (read-parsed reader size l (refused 1) b d
-    (⊎-elim (λ (z : i ≡ 0). refused-colon body (λ q. false≢true (rw (z, q) at kept)))
-    (λ (p : i ≢ 0). refused-character body i (omega (arith, p)) (inside body i kept) (omega (arith, none)))
-    (same? i 0)))
-
--- `:00000001ff` becomes the end line
-pub end-line-converted : let old : List ℕ = 58 ∷ 48 ∷ 48 ∷ 48 ∷ 48 ∷ 48 ∷ 48 ∷ 48 ∷ 49 ∷ 102 ∷ 102 ∷ [] in
-    (upperAnswer old ≡ value tt) × (upperLine old ≡ 58 ∷ 48 ∷ 48 ∷ 48 ∷ 48 ∷ 48 ∷ 48 ∷ 48 ∷ 49 ∷ 70 ∷ 70 ∷ [])
-unfolding upperLine checkBy parseBy fieldsBy countBy addressBy pairBy sumBy bodyLength
-end-line-converted = (refl, refl)

@@ -2,7 +2,7 @@
 -- Assumes nothing.
 use mathlib.Core.Path.{sym, ap, _∙_}
 use Rattle.hex_line.specs.Line.{checkedOutcome}
-use Rattle.hex_upper.specs.UpperLaws.{converted, upper-unchanged}
+use Rattle.hex_upper.specs.UpperTheorems.{converted, upper-unchanged}
 use borrow.Author.Needs.{needs}
 use Rattle.hex_upper.proofs.upper_line.Statement.{statement}
 use Rattle.hex_upper.proofs.upper_line.Tie as tie
