@@ -12,8 +12,10 @@ use Rattle.hex_line.specs.Record.{sumOf, countOf, parseBody, bodyLength}
 use Rattle.hex_line.specs.Line.{bufferLength, readLine, lineBuffer}
 use Rattle.hex_line.specs.Sum.{AllPairs, totalOf}
 use Rattle.hex_line.specs.SumLaws as sums
-use Rattle.hex_upper.specs.Former.{smallLetter, formerLine, formerBuffer}
+use Rattle.hex_text.specs.Text.{textAnswer}
+use Rattle.hex_upper.specs.Former.{smallLetter, NoSmall, formerLine, formerBuffer}
 use Rattle.hex_upper.specs.Upper.{upperAnswer, upperLine}
+use Rattle.hex_upper.specs.SmallLetters as small
 use Rattle.hex_upper.specs.UpperTheorems as upper
 
 -- Request 02. Add up the line while reading it. The crew wants the line sum gathered as each pair of digits is read, however it is done now, so that
@@ -35,10 +37,14 @@ line-sum = sums.line-sum
 -- it changes nothing else, and the new reader treats that line as the former one treated the old. Checks: 1 also for a to f; the separate call refuses by
 -- 1 to 3 as before --
 
--- the reader is `readLine`, `lineBuffer`, by which texts and pieces are read too: a line with a small letter anywhere is 1, unless 7 or 6 stands before it
+-- a line with a small letter anywhere is 1, unless 7 or 6 stands before it
 pub small-letter-refused : (reader : Reader) (size : ℕ) (line : List ℕ) (i : ℕ) → bufferLength size ≡ true → reader .ended ≡ false
     → smallLetter (getD line i 0) ≡ true → readLine reader size line ≡ refused 1
-small-letter-refused = upper.small-refused
+small-letter-refused = small.small-refused
+
+-- no text with a small letter anywhere is read; a file in pieces gets the text's answer (`stream-reads-text` of `hex_text`)
+pub text-without-small-letters : (text : List ℕ) (size : ℕ) → textAnswer text size ≡ value tt → NoSmall text
+text-without-small-letters = small.text-without
 
 -- the separate call is `hex_upper::upper_line`: it answers `upperAnswer` of a line and leaves `upperLine`. The former reader is `formerLine`, `formerBuffer`.
 -- The reader gives a converted line the number, the reader and the buffer that the former one gave the old line
@@ -59,7 +65,7 @@ other-characters-stay = upper.upper-others
 pub length-stays : (line : List ℕ) → (length (upperLine line) ≡ length line) × (bodyLength (upperLine line) ≡ bodyLength line)
 length-stays line = (upper.upper-length line, upper.upper-end line)
 
-pub without-small-letters : (line : List ℕ) → ((i : ℕ) → smallLetter (getD line i 0) ≡ false) → upperLine line ≡ line
+pub without-small-letters : (line : List ℕ) → NoSmall line → upperLine line ≡ line
 without-small-letters = upper.upper-same
 
 -- 1 to 3 as they stood: the call refuses exactly the lines that the former reader, with a buffer of the right length and no end line read, refused by 1

@@ -1,20 +1,19 @@
 -- Upper-case lines: what is read of one is what the former reader read of the old line (request 13).
 -- Assumes nothing.
 use Prim.Native.Nat.{ℕ, zero, suc, _+_, _-_, _*_, _≤_, _<_}
-use mathlib.Core.Path.{_≡_, refl, sym, ap, _∙_}
+use mathlib.Core.Path.{_≡_, refl, ap, _∙_}
 use mathlib.Core.Logic.{_≢_, ⊎-elim}
-use mathlib.Core.Bool.{Bool, true, false, false≢true}
+use mathlib.Core.Bool.{Bool, true, false}
 use mathlib.Core.List.{List, [], _∷_, _++_, map, map-append}
 use native.Mathlib.Numerals.{add-one}
 use native.Mathlib.Omega.{arith}
 use lib.Dec.{eqb}
-use lib.ListN.{length, getD, take, drop, set, length-map, List·getD-eq-default}
+use lib.ListN.{length, getD, take, drop, set, length-map}
 use lib.Seq.{length-take-le, take-suc, drop-cons, getD-at}
-use borrow.Author.Tests.{eqb-true, ne-eqb, lt-ltb, le-ltb}
+use borrow.Author.Tests.{ne-eqb, lt-ltb, le-ltb}
 use Rattle.base.specs.Choice.{pick}
-use Rattle.base.specs.ChoiceLaws.{pick-has}
 use Rattle.base.specs.Lists.{store-next}
-use Rattle.base.specs.Formula.{le, lt, _&_, sound, of-true, same?, le?}
+use Rattle.base.specs.Formula.{le, lt, _&_, sound, of-true, same?}
 use Rattle.base.specs.Outcome.Outcome.{value, refused}
 use Rattle.hex_line.specs.declared.Reader.{Reader}
 use Rattle.hex_line.specs.Record.{digitOf, pairBy, sumBy, countBy, addressBy, fieldsBy, dataBy, parseBy, pairAt, sumOf, countOf, addressOf, dataOf, parseBody, bodyLength, bodyOf}
@@ -152,24 +151,6 @@ stored-upper body m = rw (address-upper body, count-upper body, data-upper body 
 pub buffer-upper : (reader : Reader) (l m : List ℕ) → lineBuffer reader (map upperOf l) m ≡ formerBuffer reader l m
 unfolding bufferBy
 buffer-upper reader l m = rw (read-upper reader (length m) l, body-upper l, stored-upper (bodyOf l) m)
-
--- a small letter stands in a line, and not in its end
-pub inside : (l : List ℕ) (i : ℕ) → smallLetter (getD l i 0) ≡ true → i < length l
-inside l i e =
-    ⊎-elim (λ (h : length l ≤ i). absurd (false≢true (rw (List·getD-eq-default l 0 {n = i} h) at e))) (λ (h : i < length l). h) (le? (length l) i)
-
-pub before-end : (l : List ℕ) (i : ℕ) → smallLetter (getD l i 0) ≡ true → i < bodyLength l
-unfolding bodyLength
-before-end l i e =
-    let b = inside l i e in
-    pick-has (λ (n : ℕ). i < n) (eqb (getD l (length l - 1) 0) 10) _ _
-    (λ feed. let d = other (length l - 1) 10 refl (eqb-true _ _ feed) in
-    pick-has (λ (n : ℕ). i < n) (eqb (getD l (length l - 2) 0) 13) _ _
-    (λ return. let r = other (length l - 2) 13 refl (eqb-true _ _ return) in omega (arith, d, r)) (λ _. omega (arith, d)))
-    (λ _. b)
-  where
-    other : (k c : ℕ) → smallLetter c ≡ false → getD l k 0 ≡ c → i ≢ k
-    other k c none q p = false≢true (sym none ∙ rw (p, q) at e)
 
 -- a line that is upper-case up to i: the next character, and one more
 module _ (l : List ℕ) (i : ℕ) (h : i < length l) where

@@ -1,29 +1,25 @@
 -- The reader treats a converted line as the former one treated the old line, the call changes nothing but the letters a to f, and it refuses what the
--- former reader refused by 1 to 3 (request 13). The reader refuses small letters.
+-- former reader refused by 1 to 3 (request 13).
 -- Assumes nothing.
 use Prim.Native.Nat.{ℕ, _+_, _-_, _≤_}
-use mathlib.Core.Path.{_≡_, refl, sym, ap, _∙_}
-use mathlib.Core.Logic.{_≢_, ⊎-elim}
-use mathlib.Core.Bool.{true, false, false≢true}
+use mathlib.Core.Path.{_≡_, refl, ap, _∙_}
+use mathlib.Core.Bool.{true, false}
 use mathlib.Core.List.{List, [], _∷_, map}
 use native.Mathlib.Omega.{arith}
 use lib.Dec.{eqb, leb}
 use lib.ListN.{length, getD, length-map}
-use lib.Seq.{getD-take, ext-getD}
+use lib.Seq.{ext-getD}
 use Rattle.base.specs.ChoiceLaws.{pick-has}
-use Rattle.base.specs.Formula.{same?}
 use Rattle.base.specs.Outcome.{Outcome, andThen, onOutcome}
 use Rattle.base.specs.Outcome.Outcome.{value, refused}
 use Rattle.hex_line.specs.declared.Reader.{Reader}
 use Rattle.hex_line.specs.declared.Fields.{Fields}
 use Rattle.hex_line.specs.Record.{pairBy, sumBy, countBy, addressBy, fieldsBy, parseBy, bodyLength, bodyOf}
 use Rattle.hex_line.specs.Line.{bufferLength, checkFields, placeFields, readFields, checkBy, readBy, readLine, lineBuffer}
-use Rattle.hex_line.specs.LineLaws.{read-parsed}
-use Rattle.hex_line.specs.ParseLaws.{refused-colon, refused-character}
 use Rattle.hex_line.specs.Refusals.{check-number}
-use Rattle.hex_upper.specs.Former.{smallLetter, formerDigit, formerLine, formerBuffer}
+use Rattle.hex_upper.specs.Former.{smallLetter, NoSmall, formerDigit, formerLine, formerBuffer}
 use Rattle.hex_upper.specs.Upper.{upperOf, upperAnswer, upperLine}
-use Rattle.hex_upper.specs.UpperLaws.{digit-none, getD-upper, bodyLength-upper, check-upper, read-upper, buffer-upper, inside, before-end}
+use Rattle.hex_upper.specs.UpperLaws.{getD-upper, bodyLength-upper, check-upper, read-upper, buffer-upper}
 
 -- the line behind the call
 pub converted : (l : List ℕ) → upperAnswer l ≡ value tt → upperLine l ≡ map upperOf l
@@ -102,25 +98,12 @@ pub upper-end : (l : List ℕ) → bodyLength (upperLine l) ≡ bodyLength l
 upper-end l = either-line (λ (t : List ℕ). bodyLength t ≡ bodyLength l) l (bodyLength-upper l) refl
 
 -- so a line without small letters comes back as it was
-pub upper-same : (l : List ℕ) → ((i : ℕ) → smallLetter (getD l i 0) ≡ false) → upperLine l ≡ l
+pub upper-same : (l : List ℕ) → NoSmall l → upperLine l ≡ l
 upper-same l none = ext-getD 0 (upperLine l) l (upper-length l) (λ i _. upper-others l i (none i))
 
 -- and a small letter of a converted line is its upper-case letter
 pub upper-letters : (l : List ℕ) (i : ℕ) → upperAnswer l ≡ value tt → smallLetter (getD l i 0) ≡ true → getD (upperLine l) i 0 ≡ getD l i 0 - 32
 upper-letters l i a e = rw (converted l a, getD-upper l i, e)
-
--- the reader refuses a line with a small letter by 1, unless 7 or 6 stands before it
-pub small-refused : (reader : Reader) (size : ℕ) (l : List ℕ) (i : ℕ) → bufferLength size ≡ true → reader .ended ≡ false
-    → smallLetter (getD l i 0) ≡ true → readLine reader size l ≡ refused 1
-small-refused reader size l i b d e =
-    let body = bodyOf l in
-    let kept : smallLetter (getD body i 0) ≡ true = rw (getD-take (bodyLength l) l i 0 (before-end l i e)) e in
-    let none = digit-none (getD body i 0) kept in
-    sym
-    (read-parsed reader size l (refused 1) b d
-    (⊎-elim (λ (z : i ≡ 0). refused-colon body (λ q. false≢true (rw (z, q) at kept)))
-    (λ (p : i ≢ 0). refused-character body i (omega (arith, p)) (inside body i kept) (omega (arith, none)))
-    (same? i 0)))
 
 -- `:00000001ff` becomes the end line
 pub end-line-converted : let old : List ℕ = 58 ∷ 48 ∷ 48 ∷ 48 ∷ 48 ∷ 48 ∷ 48 ∷ 48 ∷ 49 ∷ 102 ∷ 102 ∷ [] in
