@@ -40,10 +40,10 @@ refused-sum l n e h =
     (λ (d : n ≢ countOf l + 5). refused-length l (λ (q : length l ≡ countOf l * 2 + 11). d (omega arith)))
     (same? n (countOf l + 5))
 
--- more pairs than any length byte calls for
-pub refused-long : (l : List ℕ) (n : ℕ) → length l ≡ n * 2 + 1 → 260 < n → parseBody l ≡ refused 1
+-- more characters than any length byte calls for
+pub refused-long : (l : List ℕ) → 521 < length l → parseBody l ≡ refused 1
 unfolding countBy
-refused-long l n e h =
+refused-long l h =
     ⊎-elim (λ (none : pairAt l 1 ≡ 256). refused-pair l (omega (arith, sum-none l 0 (countOf l + 5) (omega arith) none)))
     (λ (there : pairAt l 1 < 256). refused-length l (λ (q : length l ≡ countOf l * 2 + 11). absurd (omega arith)))
     (none-or-pair l 1)

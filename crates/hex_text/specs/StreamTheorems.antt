@@ -1,21 +1,22 @@
 -- A file fed in pieces, whatever the cuts, is read as its lines are in turn.
 -- Assumes nothing.
-use Prim.Native.Nat.{ℕ, zero, suc, _+_, _-_, _*_, _≤_, _<_}
+use Prim.Native.Nat.{ℕ, zero, suc, _+_, _-_, _≤_, _<_}
 use mathlib.Core.Path.{_≡_, refl, sym, ap, _∙_}
 use mathlib.Core.Bool.{Bool, true, false}
 use mathlib.Core.List.{List, [], _∷_, _++_, append-assoc}
 use native.Mathlib.Numerals.{add-one}
 use native.Mathlib.Omega.{arith}
 use mathlib.Core.Logic.{_≢_, _⊎_, inl, inr}
-use lib.Dec.{eqb, ltb}
+use lib.Dec.{eqb}
 use lib.ListN.{length, getD, take, drop, set, replicate, length-set, length-replicate, length-append}
 use lib.Seq.{length-take-le, take-suc-set}
-use borrow.Author.Tests.{eqb-true, ltb-true, eq-eqb, ne-eqb, le-leb, lt-leb}
+use borrow.Author.Tests.{eq-eqb, ne-eqb, le-leb, lt-leb}
 use Rattle.base.specs.Choice.{pick}
 use Rattle.base.specs.Formula.{le?, same?}
 use Rattle.base.specs.Outcome.{Outcome, andThen, onOutcome}
 use Rattle.base.specs.Outcome.Outcome.{value, refused}
-use Rattle.hex_line.specs.Record.{digitOf, pairAt, sumOf, fieldsOf, parseBody, bodyLength, bodyOf, countBy, pairBy, parseBy, sumBy}
+use Rattle.hex_line.specs.Record.{parseBody, bodyLength, bodyOf}
+use Rattle.hex_line.specs.ParseLaws.{refused-long}
 use Rattle.hex_line.specs.Line.{bufferLength, begun, readFields, readLine, lineBuffer, readBy}
 use Rattle.hex_line.specs.LineLaws.{end-keeps}
 use Rattle.hex_line.specs.Refusals.{line-number, length-lineBuffer}
@@ -40,38 +41,6 @@ feed-append-buffer s [] b m = refl
 feed-append-buffer s (c ∷ a) b m =
     feed-append-buffer (pushStream (length m) s c) a b (pushBuffer s c m) ∙ rw (length-pushBuffer s c m)
 
--- a pair is at most 256
-pair-small : (l : List ℕ) (k : ℕ) → pairAt l k < 257
-unfolding pairBy
-pair-small l k = by-test (ltb (digitOf (getD l k 0)) 16) refl (ltb (digitOf (getD l (k + 1) 0)) 16) refl
-  where
-    by-test : (a : Bool) → ltb (digitOf (getD l k 0)) 16 ≡ a → (b : Bool) → ltb (digitOf (getD l (k + 1) 0)) 16 ≡ b
-        → pick a (pick b (digitOf (getD l k 0) * 16 + digitOf (getD l (k + 1) 0)) 256) 256 < 257
-    by-test false p b q = omega arith
-    by-test true p false q = omega arith
-    by-test true p true q =
-        omega (arith, ltb-true (digitOf (getD l k 0)) 16 p, ltb-true (digitOf (getD l (k + 1) 0)) 16 q)
-
--- a sum over a first pair that is none
-sum-none : (l : List ℕ) → pairAt l 1 ≡ 256 → (n : ℕ) → sumOf l (suc n) ≡ 256
-unfolding sumBy
-sum-none l e zero = rw e
-sum-none l e (suc n) = rw (sum-none l e n)
-
--- no well-formed line has more than 521 characters before its end
-parse-long : (l : List ℕ) → 521 < length l → parseBody l ≡ refused 1
-unfolding parseBy countBy
-parse-long l h = by-test (eqb (getD l 0 0) 58) (eqb (length l) (pairAt l 1 * 2 + 11)) refl
-  where
-    by-test : (a b : Bool) → eqb (length l) (pairAt l 1 * 2 + 11) ≡ b
-        → pick a (pick b (pick (ltb (sumOf l (pairAt l 1 + 5)) 256) (value (fieldsOf l)) (refused 1)) (refused 1)) (refused 1) ≡ refused 1
-    by-test false b p = refl
-    by-test true false p = refl
-    by-test true true p =
-        let e : pairAt l 1 ≡ 256 = omega (arith, eqb-true (length l) (pairAt l 1 * 2 + 11) p, pair-small l 1) in
-        let s : sumOf l 261 ≡ 256 = sum-none l e 260 in
-        rw (e, s)
-
 -- the end of a line has at most two characters
 body-bounds : (l : List ℕ) → (length l ≤ bodyLength l + 2) × (bodyLength l ≤ length l)
 unfolding bodyLength
@@ -89,7 +58,7 @@ unfolding readBy
 long-refused reader n l h =
     let b = body-bounds l in
     let w : 521 < length (take (bodyLength l) l) = rw (length-take-le (bodyLength l) l (b .1)) (omega arith) in
-    rw (parse-long (bodyOf l) w) (by-test (bufferLength n) (reader .ended))
+    rw (refused-long (bodyOf l) w) (by-test (bufferLength n) (reader .ended))
   where
     by-test : (a d : Bool) → _≡_ {A = Outcome Reader} (pick a (pick d (refused 6) (refused 1)) (refused 7)) (refused (pick a (pick d 6 1) 7))
     by-test true true = refl

@@ -2,7 +2,7 @@
 -- Assumes nothing.
 use Prim.Native.Nat.{ℕ, zero, suc, _+_, _-_, _*_, _≤_, _<_}
 use mathlib.Core.Path.{_≡_, refl, ap, _∙_}
-use mathlib.Core.Logic.{_≢_, ⊎-elim}
+use mathlib.Core.Logic.{_≢_}
 use mathlib.Core.Bool.{Bool, true, false}
 use mathlib.Core.List.{List, [], _∷_, _++_, map, map-append}
 use native.Mathlib.Numerals.{add-one}
@@ -13,12 +13,12 @@ use lib.Seq.{length-take-le, take-suc, drop-cons, getD-at}
 use borrow.Author.Tests.{ne-eqb, lt-ltb, le-ltb}
 use Rattle.base.specs.Choice.{pick}
 use Rattle.base.specs.Lists.{store-next}
-use Rattle.base.specs.Formula.{le, lt, _&_, sound, of-true, same?}
-use Rattle.base.specs.Outcome.Outcome.{value, refused}
+use Rattle.base.specs.Formula.{le, lt, _&_, sound, of-true}
+use Rattle.base.specs.Outcome.Outcome.{refused}
 use Rattle.hex_line.specs.declared.Reader.{Reader}
 use Rattle.hex_line.specs.Record.{digitOf, pairBy, sumBy, countBy, addressBy, fieldsBy, dataBy, parseBy, pairAt, sumOf, countOf, addressOf, dataOf, parseBody, bodyLength, bodyOf}
 use Rattle.hex_line.specs.Line.{checkBy, readBy, storedBy, bufferBy, checkBody, readLine, stored, lineBuffer}
-use Rattle.hex_line.specs.ParseLaws.{refused-length, refused-long}
+use Rattle.hex_line.specs.ParseLaws.{refused-long}
 use Rattle.hex_upper.specs.Former.{smallLetter, formerDigit, formerCheck, formerLine, formerBuffer}
 use Rattle.hex_upper.specs.Upper.{upperOf}
 
@@ -129,15 +129,9 @@ unfolding checkBy
 check-upper l = rw (parse-upper l)
 
 -- a line with more characters than a colon and 260 pairs
-too-long : (l : List ℕ) → 521 < length l → parseBody l ≡ refused 1
-too-long l h =
-    ⊎-elim (λ (e : length l ≡ countOf l * 2 + 11). refused-long l (countOf l + 5) (omega arith) (omega arith))
-    (λ (d : length l ≢ countOf l * 2 + 11). refused-length l d)
-    (same? (length l) (countOf l * 2 + 11))
-
 pub former-long : (l : List ℕ) → 521 < length l → formerCheck l ≡ refused 1
 unfolding checkBy
-former-long l h = rw (← parse-upper l, too-long (map upperOf l) (rw (length-map l upperOf) h))
+former-long l h = rw (← parse-upper l, refused-long (map upperOf l) (rw (length-map l upperOf) h))
 
 -- the reader's answer to the upper-case line, and the buffer behind it, are the former ones to the old line
 pub read-upper : (reader : Reader) (size : ℕ) (l : List ℕ) → readLine reader size (map upperOf l) ≡ formerLine reader size l

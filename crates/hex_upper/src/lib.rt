@@ -10,7 +10,7 @@ use hex_line::Checked;
 use hex_line::Fault;
 
 // The most characters that a line has without its end: a colon and 260 pairs.
-const LONGEST: usize = 521;
+const LONGEST_BODY: usize = 521;
 
 // The line is upper-case now; or a refusal by 1, 2 or 3, and the line is as it was.
 pub enum Upper {
@@ -57,10 +57,10 @@ fn former_check(line: &[u8]) -> Checked
     ensures { λ r. ⌜ checkedOutcome r ≡ upperAnswer (now (line .entry)) ⌝ }
 {
     let n = hex_line::body_length(line);
-    if n > LONGEST {
+    if n > LONGEST_BODY {
         return Checked::Refused(Fault::Malformed);
     }
-    let mut copy = [0u8; LONGEST];
+    let mut copy = [0u8; LONGEST_BODY];
     check_upper(&line[..n], &mut copy)
 }
 

@@ -1,5 +1,5 @@
-// Copies Intel HEX from standard input to standard output, its lines in upper case. A line that is refused is copied as it is, told of on standard error
-// by line and number, and is the last.
+// Copies Intel HEX from standard input to standard output, its lines in upper case. The first line that is refused is told of on standard error, by line
+// and number; it and what follows are copied as they are.
 ghost use Prim.Native.Nat.{_≤_};
 ghost use lib.ListN.{length};
 use hex_upper::Upper;
@@ -27,6 +27,13 @@ fn read_line(line: &mut [u8]) -> usize
     n
 }
 
+// The next part of the input: a line that was converted, one that was copied as it is, or none.
+enum Next {
+    Converted,
+    Copied,
+    End,
+}
+
 fn tell(at: u64, number: u8) {
     io::write_all(STDERR_FILENO, b"line ");
     io::print_decimal(STDERR_FILENO, at);
@@ -35,40 +42,58 @@ fn tell(at: u64, number: u8) {
     io::write_all(STDERR_FILENO, b"\n");
 }
 
-// Whether a line was converted. A refused one is told of.
-fn convert(line: &mut [u8], at: u64) -> bool {
+// Converts a line. A refused one is told of.
+fn convert(line: &mut [u8], at: u64) -> Next {
     match hex_upper::upper_line(line) {
-        Upper::Converted => true,
+        Upper::Converted => Next::Converted,
         Upper::Refused(fault) => {
             tell(at, hex_line::number(fault));
-            false
+            Next::Copied
         }
     }
 }
 
-// Converts a line and writes it; a refused one is written as it is. Whether it was converted and written.
-fn write_line(line: &mut [u8], at: u64) -> bool {
-    let converted = convert(line, at);
-    io::write_all(STDOUT_FILENO, line) & converted
+// Writes a line. If that fails, it tells so, and nothing follows.
+fn write_line(line: &[u8], next: Next) -> Next {
+    if io::write_all(STDOUT_FILENO, line) {
+        return next;
+    }
+    io::write_all(STDERR_FILENO, b"standard output cannot be written\n");
+    Next::End
 }
 
-// Whether there was a next line, and it was converted and written. The buffer is longer than any line that is not refused.
-fn next_line(at: u64) -> bool {
+// Writes a line, converted if it is to be.
+fn copy_line(line: &mut [u8], at: u64, converting: bool) -> Next {
+    if converting {
+        let next = convert(line, at);
+        return write_line(line, next);
+    }
+    write_line(line, Next::Copied)
+}
+
+// The next line of the input. The buffer is longer than any line that is not refused.
+fn next_line(at: u64, converting: bool) -> Next {
     let mut line = io::buffer();
     let n = read_line(&mut line);
     if n == 0 {
-        return false;
+        return Next::End;
     }
-    write_line(&mut line[..n], at)
+    copy_line(&mut line[..n], at, converting)
 }
 
 fn main() {
     let mut at: u64 = 1;
+    let mut converting = true;
     while at < u64::MAX {
-        if next_line(at) {
-            at += 1;
-        } else {
-            return;
+        match next_line(at, converting) {
+            Next::Converted => {}
+            Next::Copied => {
+                converting = false;
+            }
+            Next::End => {
+                return;
+            }
         }
+        at += 1;
     }
 }

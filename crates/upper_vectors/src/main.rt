@@ -7,10 +7,6 @@ use test_support::Counts;
 use test_support::print;
 use test_support::print_number;
 
-fn wide(x: u8) -> u64 {
-    x as u64
-}
-
 // The number of an answer, 0 where the line was converted.
 fn upper_number(answer: Upper) -> u8 {
     match answer {
@@ -29,11 +25,11 @@ fn reader_number(line: &[u8]) -> u8 {
 
 // Prints the reader's number of a line, that of the call, the reader's of the line behind the call, and this line.
 fn convert(line: &mut [u8]) {
-    print_number(wide(reader_number(line)));
+    print_number(reader_number(line) as u64);
     print(b" ");
-    print_number(wide(upper_number(hex_upper::upper_line(line))));
+    print_number(upper_number(hex_upper::upper_line(line)) as u64);
     print(b" ");
-    print_number(wide(reader_number(line)));
+    print_number(reader_number(line) as u64);
     print(b" ");
     print(line);
     print(b"\n");

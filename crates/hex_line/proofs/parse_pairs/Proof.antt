@@ -23,7 +23,7 @@ returns c = let body = now (c .before .before .before .args .body) in
 
 returns-2 : tie.Need-returns-2
 returns-2 c = let body = now (c .before .before .before .before .args .body) in
-    ((sym (refused-long body (length body / 2) (c .before .if1 .left) (c .if2 .taken)), tt), tt)
+    ((sym (refused-long body (omega (arith, c .before .if1 .left, c .if2 .taken))), tt), tt)
 
 shared-slice-read-if3 : tie.Need-shared-slice-read-if3
 shared-slice-read-if3 c = search needs

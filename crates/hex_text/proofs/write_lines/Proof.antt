@@ -4,7 +4,7 @@ use denote.Ref.{now}
 use mathlib.Core.Path.{_≡_, refl, sym, ap, _∙_}
 use Prim.Native.Nat.{_≤_, _-_}
 use lib.ListN.{length, drop, drop-of-length-le}
-use Rattle.hex_line.specs.Line.{begun, lineOutcome, lineBuffer, bufferBy}
+use Rattle.hex_line.specs.Line.{begun, lineOutcome, bufferBy}
 use Rattle.hex_text.specs.Text.{lines, linesBuffer}
 use Rattle.hex_text.specs.TextLaws.{turn}
 use borrow.Author.Needs.{needs}

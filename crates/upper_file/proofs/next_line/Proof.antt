@@ -21,11 +21,11 @@ returns c = search needs
 array-borrow-prefix-line : tie.Need-array-borrow-prefix-line
 array-borrow-prefix-line c = search needs
 
-slice-aggregate-write-line : tie.Need-slice-aggregate-write-line
-slice-aggregate-write-line c = sym (length-take-le _ _ (search needs))
+slice-aggregate-copy-line : tie.Need-slice-aggregate-copy-line
+slice-aggregate-copy-line c = sym (length-take-le _ _ (search needs))
 
-write-line-requires : tie.Need-write-line-requires
-write-line-requires c κs = search needs
+copy-line-requires : tie.Need-copy-line-requires
+copy-line-requires c κs = search needs
 
 returns-2 : tie.Need-returns-2
 returns-2 c = search needs
@@ -39,6 +39,6 @@ next-line-spec =
     read-line-requires
     returns
     array-borrow-prefix-line
-    slice-aggregate-write-line
-    write-line-requires
+    slice-aggregate-copy-line
+    copy-line-requires
     returns-2)
