@@ -6,7 +6,7 @@ use mathlib.Core.Bool.{Bool, true, false}
 use mathlib.Core.List.{List}
 use native.Mathlib.Numerals.{add-one}
 use native.Mathlib.Omega.{arith}
-use lib.Dec.{eqb, leb, ltb}
+use lib.Dec.{eqb, ltb}
 use lib.ListN.{length, getD, drop, drop-of-length-le}
 use lib.Seq.{drop-cons}
 use borrow.Author.Tests.{lt-ltb, le-ltb}
@@ -16,7 +16,7 @@ use Rattle.base.specs.Outcome.{Outcome, andThen, onOutcome}
 use Rattle.base.specs.Outcome.Outcome.{value, refused}
 use Rattle.hex_line.specs.Record.{digitOf, pairAt, added, sumOf, countOf, parseBody, bodyOf, sumBy}
 use Rattle.hex_line.specs.Line.{bufferLength, placeFields, readFields, readLine, readBy}
-use Rattle.hex_line.specs.Cases.{parsed-has, checked-has}
+use Rattle.hex_line.specs.Cases.{parsed-has, checked-has, placed-has}
 use Rattle.hex_line.specs.declared.Reader.{Reader}
 use Rattle.hex_line.specs.declared.Fields.{Fields}
 use Rattle.hex_fault.specs.declared.Finding.{Finding}
@@ -52,10 +52,7 @@ Agrees body size reader o = findingNumber (onOutcome o (λ next. Finding.Right) 
 
 module _ (body : List ℕ) (size : ℕ) (reader : Reader) (f : Fields) (e : parseBody body ≡ value f) where
   place-agrees : Agrees body size reader (placeFields reader size f)
-  place-agrees =
-      pick-has (Agrees body size reader) (eqb (f .kind) 1) _ _ (λ _. refl)
-      (λ _. pick-has (Agrees body size reader) (leb (reader .next) (f .address)) _ _
-      (λ _. pick-has (Agrees body size reader) (leb (f .address + f .count) size) _ _ (λ _. refl) (λ _. rw e)) (λ _. rw e))
+  place-agrees = placed-has (Agrees body size reader) reader size f (λ _. refl) (λ _. refl) (rw e) (rw e)
 
   fields-agree : Agrees body size reader (readFields reader size f)
   fields-agree =

@@ -8,8 +8,7 @@ use native.Mathlib.Numerals.{add-one}
 use native.Mathlib.Omega.{arith}
 use lib.ListN.{length, take, drop, length-append, length-drop}
 use lib.Seq.{length-take-le}
-use lib.Dec.{T, eqb, leb}
-use borrow.Author.Tests.{leb-true}
+use lib.Dec.{T, eqb}
 use Rattle.base.specs.ChoiceLaws.{pick-has}
 use Rattle.base.specs.Formula.{le, _&_, decide, sound}
 use Rattle.base.specs.Outcome.{Outcome, andThen}
@@ -17,7 +16,7 @@ use Rattle.base.specs.Outcome.Outcome.{value, refused}
 use Rattle.hex_line.specs.declared.Reader.{Reader}
 use Rattle.hex_line.specs.declared.Fields.{Fields}
 use Rattle.hex_line.specs.Record.{pairAt, added, sumOf, dataOf, countOf, addressOf, fieldsOf, parseBody, bodyOf, dataBy, fieldsBy, sumBy}
-use Rattle.hex_line.specs.Cases.{parsed-has, checked-has}
+use Rattle.hex_line.specs.Cases.{parsed-has, checked-has, placed-has}
 use Rattle.hex_line.specs.Line.{bufferLength, placeFields, readFields, readLine, stored, lineBuffer, bufferBy, readBy, storedBy}
 
 -- one more pair
@@ -52,12 +51,7 @@ module _ (reader : Reader) (size : ℕ) (f : Fields) where
 
   within-place : (eqb (f .kind) 1 ≡ true → end ≡ 0) → Within end size (placeFields reader size f)
   within-place z =
-      pick-has (Within end size) (eqb (f .kind) 1) (value (record { next = reader .next; ended = true })) _
-      (λ k. (omega (arith, z k), λ e. z k))
-      (λ _. pick-has (Within end size) (leb (reader .next) (f .address)) _ _
-      (λ _. pick-has (Within end size) (leb end size) (value (record { next = end; ended = false })) (refused 5)
-      (λ e. (leb-true (f .address + f .count) size e, λ d. absurd (false≢true d))) (λ _. numeral tt))
-      (λ _. numeral tt))
+      placed-has (Within end size) reader size f (λ k. (omega (arith, z k), λ e. z k)) (λ h. (h, λ d. absurd (false≢true d))) (numeral tt) (numeral tt)
 
   within-fields : Within end size (readFields reader size f)
   within-fields =

@@ -1,21 +1,20 @@
 -- The reader treats a converted line as the former one treated the old line, the call changes nothing but the letters a to f, and it refuses what the
 -- former reader refused by 1 to 3 (request 13).
 -- Assumes nothing.
-use Prim.Native.Nat.{ℕ, _+_, _-_, _≤_}
+use Prim.Native.Nat.{ℕ, _-_, _≤_}
 use mathlib.Core.Path.{_≡_, refl, ap, _∙_}
 use mathlib.Core.Bool.{true, false}
 use mathlib.Core.List.{List, [], _∷_, map}
 use native.Mathlib.Omega.{arith}
-use lib.Dec.{eqb, leb}
 use lib.ListN.{length, getD, length-map}
 use lib.Seq.{ext-getD}
-use Rattle.base.specs.ChoiceLaws.{pick-has}
 use Rattle.base.specs.Outcome.{Outcome, andThen, onOutcome}
 use Rattle.base.specs.Outcome.Outcome.{value, refused}
 use Rattle.hex_line.specs.declared.Reader.{Reader}
 use Rattle.hex_line.specs.declared.Fields.{Fields}
 use Rattle.hex_line.specs.Record.{pairBy, sumBy, countBy, addressBy, fieldsBy, parseBy, bodyLength, bodyOf}
 use Rattle.hex_line.specs.Line.{bufferLength, checkFields, placeFields, readFields, checkBy, readBy, readLine, lineBuffer}
+use Rattle.hex_line.specs.Cases.{placed-has}
 use Rattle.hex_line.specs.Refusals.{check-number}
 use Rattle.hex_upper.specs.Former.{smallLetter, NoSmall, formerDigit, formerLine, formerBuffer}
 use Rattle.hex_upper.specs.Upper.{upperOf, upperAnswer, upperLine}
@@ -51,10 +50,7 @@ AboveThree (value next) = Unit {0}
 AboveThree (refused n) = 4 ≤ n
 
 place-number : (reader : Reader) (size : ℕ) (f : Fields) → AboveThree (placeFields reader size f)
-place-number reader size f =
-    pick-has AboveThree (eqb (f .kind) 1) _ _ (λ _. tt)
-    (λ _. pick-has AboveThree (leb (reader .next) (f .address)) _ _
-    (λ _. pick-has AboveThree (leb (f .address + f .count) size) _ _ (λ _. tt) (λ _. omega arith)) (λ _. omega arith))
+place-number reader size f = placed-has AboveThree reader size f (λ _. tt) (λ _. tt) (omega arith) (omega arith)
 
 -- the call refuses exactly the lines that the former reader refused by 1 to 3, by the same number
 module _ (reader : Reader) (size : ℕ) (b : bufferLength size ≡ true) (d : reader .ended ≡ false) (line : List ℕ) (n : ℕ) where
