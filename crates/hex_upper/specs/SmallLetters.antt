@@ -12,7 +12,7 @@ use lib.Seq.{getD-take}
 use borrow.Author.Tests.{eqb-true}
 use Rattle.base.specs.Choice.{pick}
 use Rattle.base.specs.ChoiceLaws.{pick-has}
-use Rattle.base.specs.Formula.{same?, le?}
+use Rattle.base.specs.Formula.{same?, le?, case-bool}
 use Rattle.base.specs.Outcome.{Outcome, andThen, onOutcome}
 use Rattle.base.specs.Outcome.Outcome.{value, refused}
 use Rattle.hex_line.specs.declared.Reader.{Reader}
@@ -25,11 +25,11 @@ use Rattle.hex_upper.specs.Former.{smallLetter, NoSmall}
 use Rattle.hex_upper.specs.UpperLaws.{digit-none}
 
 -- a small letter stands in a line, and not in its end
-pub inside : (l : List ℕ) (i : ℕ) → smallLetter (getD l i 0) ≡ true → i < length l
+inside : (l : List ℕ) (i : ℕ) → smallLetter (getD l i 0) ≡ true → i < length l
 inside l i e =
     ⊎-elim (λ (h : length l ≤ i). absurd (false≢true (rw (List·getD-eq-default l 0 {n = i} h) at e))) (λ (h : i < length l). h) (le? (length l) i)
 
-pub before-end : (l : List ℕ) (i : ℕ) → smallLetter (getD l i 0) ≡ true → i < bodyLength l
+before-end : (l : List ℕ) (i : ℕ) → smallLetter (getD l i 0) ≡ true → i < bodyLength l
 unfolding bodyLength
 before-end l i e =
     let b = inside l i e in
@@ -61,16 +61,13 @@ not-read {A} e = false≢true (ap (λ (o : Outcome A). onOutcome o (λ _. true) 
 -- in a line that is read
 line-without : (reader : Reader) (size : ℕ) (l : List ℕ) (next : Reader) → readLine reader size l ≡ value next → NoSmall l
 unfolding readBy
-line-without reader size l next e i = by-test (smallLetter (getD l i 0)) refl
+line-without reader size l next e i =
+    ⊎-elim (λ s. absurd (refuted (bufferLength size) (reader .ended) refl refl s)) (λ s. s) (case-bool (smallLetter (getD l i 0)))
   where
     refuted : (b d : Bool) → bufferLength size ≡ b → reader .ended ≡ d → smallLetter (getD l i 0) ≡ true → ⊥
     refuted true false b d s = not-read (sym (small-refused reader size l i b d s) ∙ e)
     refuted true true b d s = not-read (rw (b, d) at e)
     refuted false d b _ s = not-read (rw b at e)
-
-    by-test : (t : Bool) → smallLetter (getD l i 0) ≡ t → t ≡ false
-    by-test false s = refl
-    by-test true s = absurd (refuted (bufferLength size) (reader .ended) refl refl s)
 
 -- in lines that are read in turn
 abbrev EachNoSmall : List (List ℕ) → Type 0

@@ -2,8 +2,8 @@
 -- Assumes nothing.
 use Prim.Native.Nat.{ℕ, zero, suc, _+_, _-_, _*_, _≤_, _<_}
 use mathlib.Core.Path.{_≡_, refl, ap, _∙_}
-use mathlib.Core.Logic.{_≢_}
-use mathlib.Core.Bool.{Bool, true, false}
+use mathlib.Core.Logic.{_≢_, ⊎-elim}
+use mathlib.Core.Bool.{true, false}
 use mathlib.Core.List.{List, [], _∷_, _++_, map, map-append}
 use native.Mathlib.Numerals.{add-one}
 use native.Mathlib.Omega.{arith}
@@ -11,9 +11,8 @@ use lib.Dec.{eqb}
 use lib.ListN.{length, getD, take, drop, set, length-map}
 use lib.Seq.{length-take-le, take-suc, drop-cons, getD-at}
 use borrow.Author.Tests.{ne-eqb, lt-ltb, le-ltb}
-use Rattle.base.specs.Choice.{pick}
 use Rattle.base.specs.Lists.{store-next}
-use Rattle.base.specs.Formula.{le, lt, _&_, sound, of-true}
+use Rattle.base.specs.Formula.{le, lt, _&_, sound, of-true, case-bool}
 use Rattle.base.specs.Outcome.Outcome.{refused}
 use Rattle.hex_line.specs.declared.Reader.{Reader}
 use Rattle.hex_line.specs.Record.{digitOf, pairBy, sumBy, countBy, addressBy, fieldsBy, dataBy, parseBy, pairAt, sumOf, countOf, addressOf, dataOf, parseBody, bodyLength, bodyOf}
@@ -26,33 +25,27 @@ use Rattle.hex_upper.specs.Upper.{upperOf}
 small-range : (c : ℕ) → smallLetter c ≡ true → (97 ≤ c) × (c < 103)
 small-range c e = sound (le 97 c & lt c 103) (of-true _ e)
 
--- a small letter, or another character
-letter-cases : (c : ℕ) (P : Bool → Type 0) → ((97 ≤ c) × (c < 103) → P true) → P false → P (smallLetter c)
-letter-cases c P small other = by-test (smallLetter c) refl
-  where
-    by-test : (t : Bool) → smallLetter c ≡ t → P t
-    by-test true e = small (small-range c e)
-    by-test false e = other
-
 -- a small letter has the value of its upper-case letter
 digit-upper : (c : ℕ) → digitOf (upperOf c) ≡ formerDigit c
 digit-upper c =
-    letter-cases c (λ (t : Bool). digitOf (pick t (c - 32) c) ≡ pick t (c - 87) (digitOf c))
-    (λ r. let a : 48 ≤ c - 32 = omega arith in
+    ⊎-elim (λ (e : smallLetter c ≡ true). let r = small-range c e in
+    let a : 48 ≤ c - 32 = omega arith in
     let b : 58 ≤ c - 32 = omega arith in
     let d : 65 ≤ c - 32 = omega arith in
     let f : c - 32 < 71 = omega arith in
-    rw (le-ltb _ _ a, le-ltb _ _ b, le-ltb _ _ d, lt-ltb _ _ f) (omega arith))
-    refl
+    rw (e, le-ltb _ _ a, le-ltb _ _ b, le-ltb _ _ d, lt-ltb _ _ f) (omega arith))
+    (λ (e : smallLetter c ≡ false). rw e)
+    (case-bool (smallLetter c))
 
 -- neither it nor its upper-case letter is a colon, CR or LF
 eqb-upper : (c k : ℕ) → k < 65 → eqb (upperOf c) k ≡ eqb c k
 eqb-upper c k h =
-    letter-cases c (λ (t : Bool). eqb (pick t (c - 32) c) k ≡ eqb c k)
-    (λ r. let a : c - 32 ≢ k = λ q. omega (arith, q) in
+    ⊎-elim (λ (e : smallLetter c ≡ true). let r = small-range c e in
+    let a : c - 32 ≢ k = λ q. omega (arith, q) in
     let b : c ≢ k = λ q. omega (arith, q) in
-    rw (ne-eqb _ _ a, ne-eqb _ _ b))
-    refl
+    rw (e, ne-eqb _ _ a, ne-eqb _ _ b))
+    (λ (e : smallLetter c ≡ false). rw e)
+    (case-bool (smallLetter c))
 
 pub digit-none : (c : ℕ) → smallLetter c ≡ true → digitOf c ≡ 16
 digit-none c e =
@@ -120,7 +113,7 @@ bodyLength-upper l =
       eqb-upper (getD l (length l - 2) 0) 13 (omega arith),
     )
 
-pub body-upper : (l : List ℕ) → bodyOf (map upperOf l) ≡ map upperOf (bodyOf l)
+body-upper : (l : List ℕ) → bodyOf (map upperOf l) ≡ map upperOf (bodyOf l)
 body-upper l = rw (bodyLength-upper l) (take-upper (bodyLength l) l)
 
 -- 1 to 3 of the upper-case line are those of the old line as they stood
