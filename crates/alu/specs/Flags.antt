@@ -1,45 +1,40 @@
--- The FLAGS register (D5H; its page in chapter 4, and chapter 6): bit 7 is C, bit 6 Z, bit 5 S, bit 4 V; and the 16 conditions of table 6-6.
+-- The FLAGS register (D5H; its page in chapter 4, and chapter 6) and the flags that an instruction names; the 16 conditions of table 6-6.
 -- Assumes nothing.
-use Prim.Native.Nat.{ℕ, _+_, _/_, _%_}
+use Prim.Native.Nat.{ℕ, _+_, _%_}
 use mathlib.Core.Bool.{Bool, Bool·beq, true, false, not, _&&_, _||_}
 use mathlib.Core.List.{List, [], _∷_}
 use lib.Dec.{eqb}
 use Rattle.base.specs.Choice.{pick, choose}
-use Rattle.alu.specs.declared.FlagUpdate.{FlagUpdate}
-use Rattle.alu.specs.declared.FlagUpdate.the-variants.{Unchanged, Carry, Result, CarryResult}
+use Rattle.isa.specs.declared.Flag.{Flag}
+use Rattle.isa.specs.declared.Flag.the-variants.{Carry, Zero, Sign, Overflow}
+use Rattle.isa.specs.declared.FlagSet.{FlagSet}
+use Rattle.isa.specs.Flags.{flagIn}
 
 unfoldable pub carry : ℕ → Bool
-carry f = eqb (f / 128 % 2) 1
+carry f = flagIn Carry f
 
 unfoldable pub zeroFlag : ℕ → Bool
-zeroFlag f = eqb (f / 64 % 2) 1
+zeroFlag f = flagIn Zero f
 
 unfoldable pub signFlag : ℕ → Bool
-signFlag f = eqb (f / 32 % 2) 1
+signFlag f = flagIn Sign f
 
 unfoldable pub overflowFlag : ℕ → Bool
-overflowFlag f = eqb (f / 16 % 2) 1
+overflowFlag f = flagIn Overflow f
 
 -- the byte with these flags; bits 3 to 0 are 0
 unfoldable pub flagsByte : Bool → Bool → Bool → Bool → ℕ
 flagsByte c z s v = pick c 128 0 + pick z 64 0 + pick s 32 0 + pick v 16 0
 
--- FLAGS after the flags that an instruction names are set over f; a flag that it does not name stays
-unfoldable pub update : ℕ → FlagUpdate → ℕ
-update f Unchanged = f
-update f (Carry c) = flagsByte c (zeroFlag f) (signFlag f) (overflowFlag f)
-update f (Result z s v) = flagsByte (carry f) z s v
-update f (CarryResult c z s v) = flagsByte c z s v
+-- a flag of FLAGS f once those that n names are as in x: a flag that is not named stays (02, request 07)
+unfoldable pub updated : Flag → ℕ → FlagSet → ℕ → Bool
+updated g f n x = pick (flagIn g (n .0)) (flagIn g x) (flagIn g f)
 
--- pages RCF, SCF, CCF: C becomes 0, 1, its opposite; the other flags are not named
-abbrev pub resetCarry : FlagUpdate
-resetCarry = Carry false
-
-abbrev pub setCarry : FlagUpdate
-setCarry = Carry true
-
-abbrev pub complementCarry : Bool → FlagUpdate
-complementCarry c = Carry (not c)
+-- FLAGS f once the flags that n names are as in x; where none is named it stays whole, else bits 3 to 0 become 0
+unfoldable pub update : ℕ → FlagSet → ℕ → ℕ
+update f n x =
+    pick (eqb (n .0) 0) f
+    (flagsByte (updated Carry f n x) (updated Zero f n x) (updated Sign f n x) (updated Overflow f n x))
 
 -- the conditions of C, Z, S, V by number (table 6-6; GE, LT, GT, LE as 01 settles them)
 abbrev pub conditions : Bool → Bool → Bool → Bool → List (ℕ × Bool)

@@ -17,16 +17,18 @@ use Rattle.isa.specs.declared.Alu.{Alu}
 use Rattle.isa.specs.declared.Alu.the-variants.{Add, Adc, Sub, Sbc, Or, And, Tcm, Tm, Cp, Xor}
 use Rattle.isa.specs.declared.Unary.{Unary}
 use Rattle.isa.specs.declared.Unary.the-variants.{Dec, Rlc, Inc, Com, Rl, Clr, Rrc, Sra, Rr}
-use Rattle.alu.specs.declared.FlagUpdate.{FlagUpdate}
-use Rattle.alu.specs.declared.FlagUpdate.the-variants.{Unchanged, Carry, Result, CarryResult}
-use Rattle.alu.specs.Flags.{carry, zeroFlag, signFlag, overflowFlag, flagsByte, update, conditionOn, condition}
+use Rattle.isa.specs.declared.Flag.{Flag}
+use Rattle.isa.specs.declared.Flag.the-variants.{Carry, Zero, Sign, Overflow}
+use Rattle.isa.specs.declared.FlagSet.{FlagSet}
+use Rattle.isa.specs.Flags.{flagIn, allFlags}
+use Rattle.alu.specs.Flags.{carry, zeroFlag, signFlag, overflowFlag, flagsByte, updated, update, conditionOn, condition}
 use Rattle.alu.specs.Operations.{operate, addition, subtraction, logical, modify, increment, decrement, rotation, shiftRight, compareFlags}
 
 -- a test of four flags that holds at all 16 settings, which antt computes, holds at each
 abbrev both : (Bool → Bool) → Bool
 both f = f true && f false
 
-abbrev everySetting : (Bool → Bool → Bool → Bool → Bool) → Bool
+abbrev pub everySetting : (Bool → Bool → Bool → Bool → Bool) → Bool
 everySetting f = both (λ c. both (λ z. both (λ s. both (λ v. f c z s v))))
 
 and-first : (a b : Bool) → (a && b) ≡ true → a ≡ true
@@ -42,7 +44,7 @@ both-at : (f : Bool → Bool) → both f ≡ true → (b : Bool) → f b ≡ tru
 both-at f e true = and-first (f true) (f false) e
 both-at f e false = and-second (f true) (f false) e
 
-at-setting : (f : Bool → Bool → Bool → Bool → Bool) → everySetting f ≡ true → (c z s v : Bool) → f c z s v ≡ true
+pub at-setting : (f : Bool → Bool → Bool → Bool → Bool) → everySetting f ≡ true → (c z s v : Bool) → f c z s v ≡ true
 at-setting f e c z s v =
     both-at (λ v. f c z s v)
     (both-at (λ s. both (λ v. f c z s v))
@@ -55,14 +57,26 @@ same-bool true false e = sym e
 same-bool false true e = e
 same-bool false false e = refl
 
--- a FLAGS byte holds C and Z, is a byte, and has 0 in bits 3 to 0
-byte-carry : (c z s v : Bool) → carry (flagsByte c z s v) ≡ c
-unfolding carry flagsByte
-byte-carry c z s v = same-bool _ _ (at-setting (λ c z s v. Bool·beq (carry (flagsByte c z s v)) c) refl c z s v)
+-- a FLAGS byte holds each flag, is a byte, and has 0 in bits 3 to 0
+abbrev byFlag : Flag → Bool → Bool → Bool → Bool → Bool
+byFlag Carry c z s v = c
+byFlag Zero c z s v = z
+byFlag Sign c z s v = s
+byFlag Overflow c z s v = v
 
-byte-zero : (c z s v : Bool) → zeroFlag (flagsByte c z s v) ≡ z
-unfolding zeroFlag flagsByte
-byte-zero c z s v = same-bool _ _ (at-setting (λ c z s v. Bool·beq (zeroFlag (flagsByte c z s v)) z) refl c z s v)
+held : Flag → Bool → Bool → Bool → Bool → Bool
+held g c z s v = Bool·beq (flagIn g (flagsByte c z s v)) (byFlag g c z s v)
+
+all-held : (g : Flag) → everySetting (held g) ≡ true
+unfolding held flagIn flagsByte
+all-held Carry = refl
+all-held Zero = refl
+all-held Sign = refl
+all-held Overflow = refl
+
+byte-flag : (g : Flag) (c z s v : Bool) → flagIn g (flagsByte c z s v) ≡ byFlag g c z s v
+unfolding held
+byte-flag g c z s v = same-bool _ _ (at-setting (held g) (all-held g) c z s v)
 
 byte-bound : (c z s v : Bool) → flagsByte c z s v < 256
 unfolding flagsByte
@@ -72,24 +86,67 @@ byte-low : (c z s v : Bool) → flagsByte c z s v % 16 ≡ 0
 unfolding flagsByte
 byte-low c z s v = eqb-true _ _ (at-setting (λ c z s v. eqb (flagsByte c z s v % 16) 0) refl c z s v)
 
--- FLAGS stays a byte; an operation that names a flag leaves 0 in bits 3 to 0
-pub update-bound : (f : ℕ) (u : FlagUpdate) → f < 256 → update f u < 256
-unfolding update
-update-bound f Unchanged h = h
-update-bound f (Carry c) h = byte-bound c (zeroFlag f) (signFlag f) (overflowFlag f)
-update-bound f (Result z s v) h = byte-bound (carry f) z s v
-update-bound f (CarryResult c z s v) h = byte-bound c z s v
+-- a flag that is named is as in x, another stays; where none is named FLAGS stays whole
+pub not-in-none : (g : Flag) → flagIn g 0 ≡ false
+unfolding flagIn
+not-in-none Carry = refl
+not-in-none Zero = refl
+not-in-none Sign = refl
+not-in-none Overflow = refl
 
-pub update-unchanged : (f : ℕ) → update f Unchanged ≡ f
-unfolding update
-update-unchanged f = refl
+by-flag : (g : Flag) (f : ℕ) (n : FlagSet) (x : ℕ)
+    → byFlag g (updated Carry f n x) (updated Zero f n x) (updated Sign f n x) (updated Overflow f n x) ≡ updated g f n x
+by-flag Carry f n x = refl
+by-flag Zero f n x = refl
+by-flag Sign f n x = refl
+by-flag Overflow f n x = refl
 
-pub update-low : (f : ℕ) (u : FlagUpdate) → (u ≡ Unchanged → ⊥) → update f u % 16 ≡ 0
+pub update-none : (f : ℕ) (n : FlagSet) (x : ℕ) → n .0 ≡ 0 → update f n x ≡ f
 unfolding update
-update-low f Unchanged h = absurd (h refl)
-update-low f (Carry c) h = byte-low c (zeroFlag f) (signFlag f) (overflowFlag f)
-update-low f (Result z s v) h = byte-low (carry f) z s v
-update-low f (CarryResult c z s v) h = byte-low c z s v
+update-none f n x e = rw e
+
+updated-none : (g : Flag) (f : ℕ) (n : FlagSet) (x : ℕ) → n .0 ≡ 0 → updated g f n x ≡ flagIn g f
+unfolding updated
+updated-none g f n x e = rw (e, not-in-none g)
+
+pub update-flag : (g : Flag) (f : ℕ) (n : FlagSet) (x : ℕ) → flagIn g (update f n x) ≡ updated g f n x
+unfolding update
+update-flag g f n x =
+    ⊎-elim
+    (λ (e : n .0 ≡ 0). ap (flagIn g) (update-none f n x e) ∙ sym (updated-none g f n x e))
+    (λ (ne : n .0 ≢ 0). rw (ne-eqb (n .0) 0 ne) (byte-flag g _ _ _ _ ∙ by-flag g f n x))
+    (same? (n .0) 0)
+
+-- FLAGS stays a byte, and keeps 0 in bits 3 to 0
+pub update-bound : (f : ℕ) (n : FlagSet) (x : ℕ) → f < 256 → update f n x < 256
+unfolding update
+update-bound f n x h = pick-has (λ (k : ℕ). k < 256) (eqb (n .0) 0) f _ (λ _. h) (λ _. byte-bound _ _ _ _)
+
+pub update-low : (f : ℕ) (n : FlagSet) (x : ℕ) → f % 16 ≡ 0 → update f n x % 16 ≡ 0
+unfolding update
+update-low f n x h = pick-has (λ (k : ℕ). k % 16 ≡ 0) (eqb (n .0) 0) f _ (λ _. h) (λ _. byte-low _ _ _ _)
+
+-- where all four are named FLAGS is the byte itself
+pub in-all : (g : Flag) → flagIn g (allFlags .0) ≡ true
+unfolding flagIn
+in-all Carry = refl
+in-all Zero = refl
+in-all Sign = refl
+in-all Overflow = refl
+
+update-all : (f : ℕ) (c z s v : Bool) → update f allFlags (flagsByte c z s v) ≡ flagsByte c z s v
+unfolding update updated
+update-all f c z s v =
+    rw (
+      in-all Carry,
+      in-all Zero,
+      in-all Sign,
+      in-all Overflow,
+      byte-flag Carry c z s v,
+      byte-flag Zero c z s v,
+      byte-flag Sign c z s v,
+      byte-flag Overflow c z s v,
+    )
 
 -- conditions: F never holds, T always does, and the opposite of a condition below 8 is 8 above it
 pub condition-never : (f : ℕ) → condition 0 f ≡ false
@@ -115,13 +172,13 @@ condition-opposite cc f h =
     rw (e, e8) (same-bool _ _ (at-setting (opposite cc) (opposites cc h) (carry f) (zeroFlag f) (signFlag f) (overflowFlag f)))
 
 -- CP: the flags that it leaves, whatever they were, and the unsigned comparisons that they tell
-pub compare-leaves : (f v k : ℕ) (c : Bool) → update f (operate Cp v k c .flags) ≡ compareFlags v k
-unfolding compareFlags operate subtraction update
-compare-leaves f v k c = refl
+pub compare-leaves : (f v k : ℕ) (c : Bool) → update f allFlags (operate Cp v k c .flags) ≡ compareFlags v k
+unfolding compareFlags operate subtraction
+compare-leaves f v k c = update-all f _ _ _ _
 
 pub compare-carry : (v k : ℕ) → carry (compareFlags v k) ≡ ltb v k
-unfolding compareFlags operate subtraction update
-compare-carry v k = byte-carry _ _ _ _ ∙ ap (ltb v) (add-zero k)
+unfolding compareFlags operate subtraction carry
+compare-carry v k = byte-flag Carry _ _ _ _ ∙ ap (ltb v) (add-zero k)
 
 difference-zero : (v k : ℕ) → v < 256 → k < 256 → eqb ((v + 512 - (k + 0)) % 256) 0 ≡ eqb v k
 difference-zero v k hv hk =
@@ -131,8 +188,8 @@ difference-zero v k hv hk =
     (same? v k)
 
 pub compare-zero : (v k : ℕ) → v < 256 → k < 256 → zeroFlag (compareFlags v k) ≡ eqb v k
-unfolding compareFlags operate subtraction update
-compare-zero v k hv hk = byte-zero _ _ _ _ ∙ difference-zero v k hv hk
+unfolding compareFlags operate subtraction zeroFlag
+compare-zero v k hv hk = byte-flag Zero _ _ _ _ ∙ difference-zero v k hv hk
 
 not-le : (a b : ℕ) → not (leb a b) ≡ ltb b a
 not-le a b = ⊎-elim (λ (h : a ≤ b). rw (le-leb a b h, le-ltb b a h)) (λ (h : b < a). rw (lt-leb a b h, lt-ltb b a h)) (le? a b)

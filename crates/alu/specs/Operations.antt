@@ -1,4 +1,5 @@
--- The operations on one and two bytes with the flags that their pages name (chapter 6, and 01 where a page is misprinted).
+-- The operations on one and two bytes: the value, and a FLAGS byte with the flags that their pages give (chapter 6, and 01 where a page is
+-- misprinted). Which of the four an instruction names, the decoder tells (`isa` S`Map` `cellNames`); one that is not named is 0 here, and not used.
 -- 01: V is set when the signed result leaves -128 to 127; C after SUB, SBC, CP is borrow; RL, RLC, RR, RRC set V when bit 7 changes.
 -- Assumes nothing.
 use Prim.Native.Nat.{ℕ, _+_, _*_, _-_, _/_, _%_}
@@ -10,9 +11,8 @@ use Rattle.isa.specs.declared.Alu.{Alu}
 use Rattle.isa.specs.declared.Alu.the-variants.{Add, Adc, Sub, Sbc, Or, And, Tcm, Tm, Cp, Xor}
 use Rattle.isa.specs.declared.Unary.{Unary}
 use Rattle.isa.specs.declared.Unary.the-variants.{Dec, Rlc, Inc, Com, Rl, Clr, Rrc, Sra, Rr}
-use Rattle.alu.specs.declared.FlagUpdate.the-variants.{Unchanged, Result, CarryResult}
 use Rattle.alu.specs.declared.Computed.{Computed}
-use Rattle.alu.specs.Flags.{update}
+use Rattle.alu.specs.Flags.{flagsByte}
 
 -- Z and S of a result: it is 0; its bit 7 is 1
 abbrev pub isZero : ℕ → Bool
@@ -33,17 +33,17 @@ overflows n = ltb n 128 || leb 384 n
 unfoldable pub addition : ℕ → ℕ → ℕ → Computed
 addition x y k =
     let value = (x + y + k) % 256 in
-    record { value = value; flags = CarryResult (leb 256 (x + y + k)) (isZero value) (isNegative value) (overflows (biased x + biased y + k)) }
+    record { value = value; flags = flagsByte (leb 256 (x + y + k)) (isZero value) (isNegative value) (overflows (biased x + biased y + k)) }
 
 -- x - y - k modulo 256 (512 keeps it a number); C is the borrow. V by the signed values: biased x + 256 - (biased y + k) is their difference plus 256.
 unfoldable pub subtraction : ℕ → ℕ → ℕ → Computed
 subtraction x y k =
     let value = (x + 512 - (y + k)) % 256 in
-    record { value = value; flags = CarryResult (ltb x (y + k)) (isZero value) (isNegative value) (overflows (biased x + 256 - (biased y + k))) }
+    record { value = value; flags = flagsByte (ltb x (y + k)) (isZero value) (isNegative value) (overflows (biased x + 256 - (biased y + k))) }
 
--- a logical operation's result (pages AND, OR, XOR, TM, TCM, COM): V is 0, C is not named
+-- a logical operation's result (pages AND, OR, XOR, TM, TCM, COM): V is 0
 unfoldable pub logical : ℕ → Computed
-logical value = record { value = value; flags = Result (isZero value) (isNegative value) false }
+logical value = record { value = value; flags = flagsByte false (isZero value) (isNegative value) false }
 
 -- an operation on two bytes: x the destination's, y the source's, c the carry before
 unfoldable pub operate : Alu → ℕ → ℕ → Bool → Computed
@@ -71,40 +71,40 @@ stores Tm = false
 stores Cp = false
 stores Xor = true
 
--- INC and DEC: C is not named; V of INC where 7FH becomes 80H (01; its page repeats DEC's), of DEC where 80H becomes 7FH
+-- INC and DEC: V of INC where 7FH becomes 80H (01; its page repeats DEC's), of DEC where 80H becomes 7FH
 unfoldable pub increment : ℕ → Computed
 increment x =
     let value = (x + 1) % 256 in
-    record { value = value; flags = Result (isZero value) (isNegative value) (eqb x 127) }
+    record { value = value; flags = flagsByte false (isZero value) (isNegative value) (eqb x 127) }
 
 unfoldable pub decrement : ℕ → Computed
 decrement x =
     let value = (x + 255) % 256 in
-    record { value = value; flags = Result (isZero value) (isNegative value) (eqb x 128) }
+    record { value = value; flags = flagsByte false (isZero value) (isNegative value) (eqb x 128) }
 
 -- a rotation of x that gives value: C is the bit that left; V where bit 7 changes
 unfoldable pub rotation : ℕ → ℕ → Bool → Computed
 rotation x value c =
-    record { value = value; flags = CarryResult c (isZero value) (isNegative value) (not (eqb (value / 128) (x / 128))) }
+    record { value = value; flags = flagsByte c (isZero value) (isNegative value) (not (eqb (value / 128) (x / 128))) }
 
 -- SRA: bit 7 stays; C is bit 0, V is 0
 unfoldable pub shiftRight : ℕ → Computed
 shiftRight x =
     let value = x / 2 + x / 128 * 128 in
-    record { value = value; flags = CarryResult (eqb (x % 2) 1) (isZero value) (isNegative value) false }
+    record { value = value; flags = flagsByte (eqb (x % 2) 1) (isZero value) (isNegative value) false }
 
--- an operation on one byte: C is not named by DEC, INC, COM; CLR names no flag
+-- an operation on one byte
 unfoldable pub modify : Unary → ℕ → Bool → Computed
 modify Dec x c = decrement x
 modify Rlc x c = rotation x (x * 2 % 256 + pick c 1 0) (leb 128 x)
 modify Inc x c = increment x
 modify Com x c = logical (255 - x)
 modify Rl x c = rotation x (x * 2 % 256 + x / 128) (leb 128 x)
-modify Clr x c = record { value = 0; flags = Unchanged }
+modify Clr x c = record { value = 0; flags = 0 }
 modify Rrc x c = rotation x (x / 2 + pick c 128 0) (eqb (x % 2) 1)
 modify Sra x c = shiftRight x
 modify Rr x c = rotation x (x / 2 + x % 2 * 128) (eqb (x % 2) 1)
 
--- FLAGS as CP leaves it, v compared with k: all four flags are named, so what they stood at does not matter
+-- FLAGS as CP leaves it, v compared with k: it names all four flags, so what they stood at does not matter
 unfoldable pub compareFlags : ℕ → ℕ → ℕ
-compareFlags v k = update 0 (operate Cp v k false .flags)
+compareFlags v k = operate Cp v k false .flags

@@ -1,24 +1,17 @@
-// Operations on bytes with the flags that they name, and the FLAGS register.
+// Operations on bytes with their flags, and the FLAGS register.
 ghost use mathlib.Core.Path.{_≡_};
 ghost use Prim.Native.Nat.{_<_, _≤_, _%_, _*_};
 ghost use Rattle.base.specs.Choice.{pick};
-ghost use Rattle.alu.specs.Flags.{carry, zeroFlag, signFlag, overflowFlag, flagsByte, update, resetCarry, setCarry, complementCarry};
+ghost use Rattle.alu.specs.Flags.{carry, zeroFlag, signFlag, overflowFlag, flagsByte, update};
 ghost use Rattle.alu.specs.Operations.{biased, overflows, addition, subtraction, logical, operate, stores, increment, decrement, rotation, shiftRight, modify};
 use isa::Alu;
+use isa::FlagSet;
 use isa::Unary;
 
-// The flags that an operation names, with their values: C, then Z, S, V. A flag that is not named stays.
-pub enum FlagUpdate {
-    Unchanged,
-    Carry(bool),
-    Result(bool, bool, bool),
-    CarryResult(bool, bool, bool, bool),
-}
-
-// An operation's result, and its flags.
+// An operation's result, and a FLAGS byte with its flags.
 pub struct Computed {
     pub value: u8,
-    pub flags: FlagUpdate,
+    pub flags: u8,
 }
 
 // w where b holds, else 0.
@@ -55,48 +48,21 @@ pub fn overflow_flag(flags: u8) -> bool
 }
 
 // The FLAGS byte with these flags.
-fn flags_byte(c: bool, z: bool, s: bool, v: bool) -> u8
+pub fn flags_byte(c: bool, z: bool, s: bool, v: bool) -> u8
     ensures { λ r. ⌜ r ≡ flagsByte c z s v ⌝ }
 {
     weight(c, 128) + weight(z, 64) + weight(s, 32) + weight(v, 16)
 }
 
-// FLAGS once the named flags are set over it.
-pub fn update(flags: u8, named: FlagUpdate) -> u8
-    ensures { λ r. ⌜ r ≡ update flags named ⌝ }
+// FLAGS once the flags that are named are as in x.
+pub fn update(flags: u8, names: FlagSet, x: u8) -> u8
+    ensures { λ r. ⌜ r ≡ update flags names x ⌝ }
 {
-    match named {
-        FlagUpdate::Unchanged => flags,
-        FlagUpdate::Carry(c) => flags_byte(
-            c,
-            zero_flag(flags),
-            sign_flag(flags),
-            overflow_flag(flags),
-        ),
-        FlagUpdate::Result(z, s, v) => flags_byte(carry(flags), z, s, v),
-        FlagUpdate::CarryResult(c, z, s, v) => flags_byte(c, z, s, v),
+    if names.0 == 0 {
+        return flags;
     }
-}
-
-// RCF.
-pub fn reset_carry() -> FlagUpdate
-    ensures { λ r. ⌜ r ≡ resetCarry ⌝ }
-{
-    FlagUpdate::Carry(false)
-}
-
-// SCF.
-pub fn set_carry() -> FlagUpdate
-    ensures { λ r. ⌜ r ≡ setCarry ⌝ }
-{
-    FlagUpdate::Carry(true)
-}
-
-// CCF, c being C before it.
-pub fn complement_carry(c: bool) -> FlagUpdate
-    ensures { λ r. ⌜ r ≡ complementCarry c ⌝ }
-{
-    FlagUpdate::Carry(!c)
+    let n = names.0 & 0xF0;
+    (flags & (0xF0 ^ n)) | (x & n)
 }
 
 // The signed value of a byte, plus 128.
@@ -125,7 +91,7 @@ fn addition(x: u8, y: u8, k: u8) -> Computed
     let v = overflows(biased(x) + biased(y) + (k as u16));
     Computed {
         value: value,
-        flags: FlagUpdate::CarryResult(c, value == 0, 128 <= value, v),
+        flags: flags_byte(c, value == 0, 128 <= value, v),
     }
 }
 
@@ -140,17 +106,17 @@ fn subtraction(x: u8, y: u8, k: u8) -> Computed
     let v = overflows(biased(x) + 256 - (biased(y) + (k as u16)));
     Computed {
         value: value,
-        flags: FlagUpdate::CarryResult(c, value == 0, 128 <= value, v),
+        flags: flags_byte(c, value == 0, 128 <= value, v),
     }
 }
 
-// A logical operation's result: V is 0, C is not named.
+// A logical operation's result: V is 0.
 fn logical(value: u8) -> Computed
     ensures { λ r. ⌜ r ≡ logical value ⌝ }
 {
     Computed {
         value: value,
-        flags: FlagUpdate::Result(value == 0, 128 <= value, false),
+        flags: flags_byte(false, value == 0, 128 <= value, false),
     }
 }
 
@@ -197,7 +163,7 @@ fn increment(x: u8) -> Computed
     let value = std::num::wrapping_add_u8(x, 1);
     Computed {
         value: value,
-        flags: FlagUpdate::Result(value == 0, 128 <= value, x == 127),
+        flags: flags_byte(false, value == 0, 128 <= value, x == 127),
     }
 }
 
@@ -208,7 +174,7 @@ fn decrement(x: u8) -> Computed
     let value = std::num::wrapping_sub_u8(x, 1);
     Computed {
         value: value,
-        flags: FlagUpdate::Result(value == 0, 128 <= value, x == 128),
+        flags: flags_byte(false, value == 0, 128 <= value, x == 128),
     }
 }
 
@@ -218,7 +184,7 @@ fn rotation(x: u8, value: u8, c: bool) -> Computed
 {
     Computed {
         value: value,
-        flags: FlagUpdate::CarryResult(c, value == 0, 128 <= value, value / 128 != x / 128),
+        flags: flags_byte(c, value == 0, 128 <= value, value / 128 != x / 128),
     }
 }
 
@@ -229,7 +195,7 @@ fn shift_right(x: u8) -> Computed
     let value = x / 2 + x / 128 * 128;
     Computed {
         value: value,
-        flags: FlagUpdate::CarryResult(x % 2 == 1, value == 0, 128 <= value, false),
+        flags: flags_byte(x % 2 == 1, value == 0, 128 <= value, false),
     }
 }
 
@@ -251,10 +217,7 @@ pub fn modify(op: Unary, x: u8, c: bool) -> Computed
         Unary::Inc => increment(x),
         Unary::Com => logical(255 - x),
         Unary::Rl => rotation(x, doubled(x) + x / 128, 128 <= x),
-        Unary::Clr => Computed {
-            value: 0,
-            flags: FlagUpdate::Unchanged,
-        },
+        Unary::Clr => Computed { value: 0, flags: 0 },
         Unary::Rrc => rotation(x, x / 2 + weight(c, 128), x % 2 == 1),
         Unary::Sra => shift_right(x),
         Unary::Rr => rotation(x, x / 2 + x % 2 * 128, x % 2 == 1),

@@ -1,5 +1,5 @@
--- The effect summary of an action: what it may store, read and change, and where control goes. The checker's rules read nothing else of an
--- instruction but its cost and the address behind it; `safety` proves each action against its summary.
+-- The effect summary of an action and of the flags that the decoder named beside it: what it may store, read and change, and where control goes. The
+-- checker's rules read nothing else of an instruction but its cost and the address behind it; `safety` proves each action against its summary.
 -- Assumes nothing.
 use Prim.Native.Nat.{_-_}
 use mathlib.Core.Bool.{Bool, true, false}
@@ -10,6 +10,7 @@ use Rattle.isa.specs.declared.Alu.{Alu}
 use Rattle.isa.specs.declared.Alu.the-variants.{Add, Adc, Sub, Sbc, Or, And, Tcm, Tm, Cp, Xor}
 use Rattle.isa.specs.declared.Unary.{Unary}
 use Rattle.isa.specs.declared.Unary.the-variants.{Dec, Rlc, Inc, Com, Rl, Clr, Rrc, Sra, Rr}
+use Rattle.isa.specs.declared.FlagSet.{FlagSet}
 use Rattle.alu.specs.Operations.{stores}
 use Rattle.action.specs.declared.Operand.{Operand}
 use Rattle.action.specs.declared.CodeAddress.{CodeAddress}
@@ -49,13 +50,13 @@ abbrev pub moving : Write → Access → Access → FlagEffect → StackEffect �
 moving w first second f k =
     record { write = w; first = first; second = second; code = CodeAccess.Nothing; flags = f; stack = k; control = Control.Nothing; flow = onward }
 
-abbrev pub reaching : Write → CodeAccess → Summary
-reaching w c = record {
+abbrev pub reaching : Write → CodeAccess → FlagEffect → Summary
+reaching w c f = record {
   write = w;
   first = Access.Nothing;
   second = Access.Nothing;
   code = c;
-  flags = Kept;
+  flags = f;
   stack = Same;
   control = Control.Nothing;
   flow = onward;
@@ -99,7 +100,11 @@ binaryValue Tm s = Unknown
 binaryValue Cp s = Unknown
 binaryValue Xor s = Unknown
 
--- `CP cell,#k` (A6H) leaves a compare
+-- all flags are as before where none is named, else f
+abbrev pub flagEffect : FlagSet → FlagEffect → FlagEffect
+flagEffect n f = pick (eqb (n .0) 0) Kept f
+
+-- the flags behind an operation that names some: `CP cell,#k` (A6H) leaves a compare
 abbrev pub binaryFlags : Alu → Operand → Operand → FlagEffect
 binaryFlags Cp (Operand.Register a) (Operand.Immediate k) = Compared a k
 binaryFlags Cp (Operand.Register a) (Operand.Register b) = Changed
@@ -117,9 +122,9 @@ binaryFlags Tm d s = Changed
 binaryFlags Xor d s = Changed
 
 -- CP, TM and TCM read both operands and store nothing
-abbrev pub binarySummary : Bool → Alu → Operand → Operand → Summary
-binarySummary true op d s = moving (writeTo d (binaryValue op s)) Access.Nothing (reading s) Changed Same
-binarySummary false op d s = moving Write.Nothing (reading d) (reading s) (binaryFlags op d s) Same
+abbrev pub binarySummary : Bool → Alu → Operand → Operand → FlagSet → Summary
+binarySummary true op d s n = moving (writeTo d (binaryValue op s)) Access.Nothing (reading s) (flagEffect n Changed) Same
+binarySummary false op d s n = moving Write.Nothing (reading d) (reading s) (flagEffect n (binaryFlags op d s)) Same
 
 abbrev pub modifyValue : Unary → NewValue
 modifyValue Dec = OneLess
@@ -132,27 +137,15 @@ modifyValue Rrc = Unknown
 modifyValue Sra = Unknown
 modifyValue Rr = Unknown
 
--- CLR changes no flag
-abbrev pub modifyFlags : Unary → FlagEffect
-modifyFlags Dec = Changed
-modifyFlags Rlc = Changed
-modifyFlags Inc = Changed
-modifyFlags Com = Changed
-modifyFlags Rl = Changed
-modifyFlags Clr = Kept
-modifyFlags Rrc = Changed
-modifyFlags Sra = Changed
-modifyFlags Rr = Changed
-
 -- LD; of SP with a number: the stack pointer is loaded
-abbrev pub loadSummary : Operand → Operand → Summary
-loadSummary (Operand.Register a) (Operand.Immediate n) =
-    pick (eqb (a .0) spCell) (moving Write.Nothing Access.Nothing Access.Nothing Kept (Load n))
-    (moving (Write.Register a (Number n)) Access.Nothing Access.Nothing Kept Same)
-loadSummary (Operand.Register a) (Operand.Register b) = moving (Write.Register a (CopyOf b)) Access.Nothing (Access.Register b) Kept Same
-loadSummary (Operand.Register a) (Operand.Indirect p x) = moving (Write.Register a Unknown) Access.Nothing (Access.Pointed p x) Kept Same
-loadSummary (Operand.Indirect q y) s = moving (Write.Pointed q y) Access.Nothing (reading s) Kept Same
-loadSummary (Operand.Immediate n) s = forbidden
+abbrev pub loadSummary : Operand → Operand → FlagEffect → Summary
+loadSummary (Operand.Register a) (Operand.Immediate n) f =
+    pick (eqb (a .0) spCell) (moving Write.Nothing Access.Nothing Access.Nothing f (Load n))
+    (moving (Write.Register a (Number n)) Access.Nothing Access.Nothing f Same)
+loadSummary (Operand.Register a) (Operand.Register b) f = moving (Write.Register a (CopyOf b)) Access.Nothing (Access.Register b) f Same
+loadSummary (Operand.Register a) (Operand.Indirect p x) f = moving (Write.Register a Unknown) Access.Nothing (Access.Pointed p x) f Same
+loadSummary (Operand.Indirect q y) s f = moving (Write.Pointed q y) Access.Nothing (reading s) f Same
+loadSummary (Operand.Immediate n) s f = forbidden
 
 -- the offset of 8 bits is signed, that of 16 bits is not
 abbrev pub codeAccess : CodeAddress → CodeAccess
@@ -165,23 +158,23 @@ abbrev pub switching : Bool → Control
 switching true = Enable
 switching false = Disable
 
-unfoldable pub summaryOf : Action → Summary
-summaryOf (Action.Binary op d s) = into d (binarySummary (stores op) op d s)
-summaryOf (Action.Modify op d) = into d (moving (writeTo d (modifyValue op)) Access.Nothing Access.Nothing (modifyFlags op) Same)
-summaryOf (Action.Load d s) = loadSummary d s
-summaryOf (Action.Push s) = moving Write.Nothing Access.Nothing (reading s) Kept Push
-summaryOf (Action.Pop d) = into d (moving (writeTo d Unknown) Access.Nothing Access.Nothing Kept Pop)
-summaryOf (Action.LoadCode d c) = reaching (Write.Register d Unknown) (codeAccess c)
-summaryOf (Action.LoadCodeStep d p up) = reaching (Write.RegisterAndPair d p) (CodeAccess.Pair p 0 0)
-summaryOf Action.External = forbidden
-summaryOf (Action.Jump cc to) = controlling Kept Control.Nothing (Step cc to)
-summaryOf (Action.JumpPair p) = forbidden
-summaryOf (Action.Call to) = controlling Kept Control.Nothing (Call to)
-summaryOf (Action.CallPair p) = forbidden
-summaryOf Action.Return = controlling Kept Control.Nothing Return
-summaryOf Action.InterruptReturn = controlling Kept Control.Nothing InterruptReturn
-summaryOf (Action.Carry c) = controlling Changed Control.Nothing onward
-summaryOf (Action.Interrupts on) = controlling Kept (switching on) onward
-summaryOf Action.Idle = controlling Kept Wait onward
-summaryOf Action.Stop = forbidden
-summaryOf Action.Nop = controlling Kept Control.Nothing onward
+unfoldable pub summaryOf : Action → FlagSet → Summary
+summaryOf (Action.Binary op d s) n = into d (binarySummary (stores op) op d s n)
+summaryOf (Action.Modify op d) n = into d (moving (writeTo d (modifyValue op)) Access.Nothing Access.Nothing (flagEffect n Changed) Same)
+summaryOf (Action.Load d s) n = loadSummary d s (flagEffect n Changed)
+summaryOf (Action.Push s) n = moving Write.Nothing Access.Nothing (reading s) (flagEffect n Changed) Push
+summaryOf (Action.Pop d) n = into d (moving (writeTo d Unknown) Access.Nothing Access.Nothing (flagEffect n Changed) Pop)
+summaryOf (Action.LoadCode d c) n = reaching (Write.Register d Unknown) (codeAccess c) (flagEffect n Changed)
+summaryOf (Action.LoadCodeStep d p up) n = reaching (Write.RegisterAndPair d p) (CodeAccess.Pair p 0 0) (flagEffect n Changed)
+summaryOf Action.External n = forbidden
+summaryOf (Action.Jump cc to) n = controlling (flagEffect n Changed) Control.Nothing (Step cc to)
+summaryOf (Action.JumpPair p) n = forbidden
+summaryOf (Action.Call to) n = controlling (flagEffect n Changed) Control.Nothing (Call to)
+summaryOf (Action.CallPair p) n = forbidden
+summaryOf Action.Return n = controlling (flagEffect n Changed) Control.Nothing Return
+summaryOf Action.InterruptReturn n = controlling (flagEffect n Changed) Control.Nothing InterruptReturn
+summaryOf (Action.Carry c) n = controlling (flagEffect n Changed) Control.Nothing onward
+summaryOf (Action.Interrupts on) n = controlling (flagEffect n Changed) (switching on) onward
+summaryOf Action.Idle n = controlling (flagEffect n Changed) Wait onward
+summaryOf Action.Stop n = forbidden
+summaryOf Action.Nop n = controlling (flagEffect n Changed) Control.Nothing onward

@@ -1,4 +1,4 @@
--- What a cell of the map and the bytes behind the first give.
+-- What a cell of the map and the bytes behind the first give: an instruction with its length, and the flags that the cell names.
 -- Assumes nothing.
 use Prim.Native.Nat.{ℕ, _+_, _*_, _/_, _%_}
 use lib.Dec.{eqb, ltb}
@@ -6,10 +6,11 @@ use Rattle.base.specs.Addresses.{regAddr, romAddr}
 use Rattle.base.specs.Choice.{pick}
 use Rattle.base.specs.Outcome.{Outcome}
 use Rattle.base.specs.Outcome.Outcome.{value, refused}
-use Rattle.isa.specs.Map.{Cell}
+use Rattle.isa.specs.Map.{Cell, cellNames}
 use Rattle.isa.specs.Map.Cell.{empty, unary, unaryAt, pop, popAt, push, pushAt, jumpAt, callAt, aluWork, aluWorkAt, aluReg, aluRegAt, aluImm, ldcDec, ldcInc, ldcLoad, ldcStore}
 use Rattle.isa.specs.Map.Cell.{loadReg, loadRegAt, loadImm, loadAtImm, loadAtReg, call, loadIndexed, storeIndexed, ldcLoadLong, ldcStoreLong}
 use Rattle.isa.specs.Map.Cell.{loadWorkAt, loadAtWork, ldcLoadShort, ldcStoreShort, loadWorkReg, loadRegWork, jumpRel, loadWorkImm, jump, incWork, implied}
+use Rattle.isa.specs.declared.FlagSet.{FlagSet}
 use Rattle.isa.specs.declared.Instruction.{Instruction}
 
 -- an instruction and its length
@@ -61,3 +62,11 @@ formOf loadWorkImm h b1 b2 b3 = found (Instruction.LoadWorkImm h b1) 2
 formOf jump h b1 b2 b3 = found (Instruction.Jump h (romAddr (b1 * 256 + b2))) 3
 formOf incWork h b1 b2 b3 = found (Instruction.IncWork h) 1
 formOf (implied p) h b1 b2 b3 = found (Instruction.Implied p) 1
+
+-- with the flags that are named beside it
+abbrev pub naming : FlagSet → Outcome (Instruction × ℕ) → Outcome (Instruction × ℕ × FlagSet)
+naming f (value d) = value (d .0, d .1, f)
+naming f (refused n) = refused n
+
+abbrev pub answerOf : Cell → ℕ → ℕ → ℕ → ℕ → Outcome (Instruction × ℕ × FlagSet)
+answerOf c h b1 b2 b3 = naming (cellNames c) (formOf c h b1 b2 b3)

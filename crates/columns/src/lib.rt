@@ -1,15 +1,20 @@
 // Columns 0 to 6 of the opcode map.
 ghost use mathlib.Core.Path.{_≡_};
-ghost use Rattle.isa.specs.Map.{aluRow, unaryRow, unaryColumn, aluColumn, aluCell, otherCell};
+ghost use Rattle.isa.specs.Map.{aluRow, unaryRow, unaryColumn, aluColumn, aluCell, otherCell, aluNames, unaryNames};
 ghost use Rattle.isa.specs.Map.Cell.{callAt, jumpAt};
 ghost use Rattle.isa.specs.Answer.{decoded};
-ghost use Rattle.columns.specs.Form.{formOf};
+ghost use Rattle.columns.specs.Form.{answerOf};
 use base::RegAddr;
 use base::RomAddr;
+use isa::ALL_FLAGS;
 use isa::Alu;
 use isa::AluRow;
 use isa::Decoded;
+use isa::Decoded::Found;
+use isa::FlagSet;
 use isa::Instruction;
+use isa::NO_FLAGS;
+use isa::RESULT_FLAGS;
 use isa::Unary;
 use isa::UnaryRow;
 
@@ -31,50 +36,76 @@ fn alu_row(row: u8) -> AluRow
     }
 }
 
+// The flags that an operation on two bytes names.
+fn alu_names(op: Alu) -> FlagSet
+    ensures { λ r. ⌜ r ≡ aluNames op ⌝ }
+{
+    match op {
+        Alu::Add => ALL_FLAGS,
+        Alu::Adc => ALL_FLAGS,
+        Alu::Sub => ALL_FLAGS,
+        Alu::Sbc => ALL_FLAGS,
+        Alu::Or => RESULT_FLAGS,
+        Alu::And => RESULT_FLAGS,
+        Alu::Tcm => RESULT_FLAGS,
+        Alu::Tm => RESULT_FLAGS,
+        Alu::Cp => ALL_FLAGS,
+        Alu::Xor => RESULT_FLAGS,
+    }
+}
+
 // Columns 2 to 6 in the rows of an operation.
 fn alu_form(low: u8, op: Alu, row: u8, b1: u8, b2: u8, b3: u8) -> Decoded
-    ensures { λ r. ⌜ decoded r ≡ formOf (aluCell low op) row b1 b2 b3 ⌝ }
+    ensures { λ r. ⌜ decoded r ≡ answerOf (aluCell low op) row b1 b2 b3 ⌝ }
 {
+    let names = alu_names(op);
     match low {
-        2 => Decoded::Found(Instruction::AluWork(op, b1 / 16, b1 % 16), 2),
-        3 => Decoded::Found(Instruction::AluWorkAt(op, b1 / 16, b1 % 16), 2),
-        4 => Decoded::Found(Instruction::AluReg(op, RegAddr(b2), RegAddr(b1)), 3),
-        5 => Decoded::Found(Instruction::AluRegAt(op, RegAddr(b2), RegAddr(b1)), 3),
-        _ => Decoded::Found(Instruction::AluImm(op, RegAddr(b1), b2), 3),
+        2 => Found(Instruction::AluWork(op, b1 / 16, b1 % 16), 2, names),
+        3 => Found(Instruction::AluWorkAt(op, b1 / 16, b1 % 16), 2, names),
+        4 => Found(Instruction::AluReg(op, RegAddr(b2), RegAddr(b1)), 3, names),
+        5 => Found(
+            Instruction::AluRegAt(op, RegAddr(b2), RegAddr(b1)),
+            3,
+            names,
+        ),
+        _ => Found(Instruction::AluImm(op, RegAddr(b1), b2), 3, names),
     }
 }
 
 // Columns 2 to 6 in the other rows.
 fn other_form(low: u8, row: u8, b1: u8, b2: u8, b3: u8) -> Decoded
-    ensures { λ r. ⌜ decoded r ≡ formOf (otherCell low row) row b1 b2 b3 ⌝ }
+    ensures { λ r. ⌜ decoded r ≡ answerOf (otherCell low row) row b1 b2 b3 ⌝ }
 {
+    let one = RegAddr(b1);
+    let two = RegAddr(b2);
     match low {
         2 => match row {
-            14 => Decoded::Found(Instruction::LdcDec(b1 / 16, b1 % 16), 2),
+            14 => Found(Instruction::LdcDec(b1 / 16, b1 % 16), 2, NO_FLAGS),
             _ => Decoded::Undefined,
         },
         3 => match row {
-            12 => Decoded::Found(Instruction::LdcLoad(b1 / 16, b1 % 16), 2),
-            13 => Decoded::Found(Instruction::LdcStore(b1 / 16, b1 % 16), 2),
-            14 => Decoded::Found(Instruction::LdcInc(b1 / 16, b1 % 16), 2),
+            12 => Found(Instruction::LdcLoad(b1 / 16, b1 % 16), 2, NO_FLAGS),
+            13 => Found(Instruction::LdcStore(b1 / 16, b1 % 16), 2, NO_FLAGS),
+            14 => Found(Instruction::LdcInc(b1 / 16, b1 % 16), 2, NO_FLAGS),
             _ => Decoded::Undefined,
         },
         4 => match row {
-            14 => Decoded::Found(Instruction::LoadReg(RegAddr(b2), RegAddr(b1)), 3),
+            14 => Found(Instruction::LoadReg(two, one), 3, NO_FLAGS),
             15 => call_at(b1),
             _ => Decoded::Undefined,
         },
         5 => match row {
-            14 => Decoded::Found(Instruction::LoadRegAt(RegAddr(b2), RegAddr(b1)), 3),
-            15 => Decoded::Found(Instruction::LoadAtReg(RegAddr(b2), RegAddr(b1)), 3),
+            14 => Found(Instruction::LoadRegAt(two, one), 3, NO_FLAGS),
+            15 => Found(Instruction::LoadAtReg(two, one), 3, NO_FLAGS),
             _ => Decoded::Undefined,
         },
         _ => match row {
-            13 => Decoded::Found(Instruction::LoadAtImm(RegAddr(b1), b2), 3),
-            14 => Decoded::Found(Instruction::LoadImm(RegAddr(b1), b2), 3),
-            15 => Decoded::Found(
+            13 => Found(Instruction::LoadAtImm(one, b2), 3, NO_FLAGS),
+            14 => Found(Instruction::LoadImm(one, b2), 3, NO_FLAGS),
+            15 => Found(
                 Instruction::Call(RomAddr((b1 as u16) * 256 + (b2 as u16))),
                 3,
+                NO_FLAGS,
             ),
             _ => Decoded::Undefined,
         },
@@ -82,20 +113,20 @@ fn other_form(low: u8, row: u8, b1: u8, b2: u8, b3: u8) -> Decoded
 }
 
 fn call_at(b1: u8) -> Decoded
-    ensures { λ r. ⌜ decoded r ≡ formOf callAt 0 b1 0 0 ⌝ }
+    ensures { λ r. ⌜ decoded r ≡ answerOf callAt 0 b1 0 0 ⌝ }
 {
     if b1 % 2 == 0 {
-        Decoded::Found(Instruction::CallAt(RegAddr(b1)), 2)
+        Found(Instruction::CallAt(RegAddr(b1)), 2, NO_FLAGS)
     } else {
         Decoded::OddPair
     }
 }
 
 fn jump_at(b1: u8) -> Decoded
-    ensures { λ r. ⌜ decoded r ≡ formOf jumpAt 0 b1 0 0 ⌝ }
+    ensures { λ r. ⌜ decoded r ≡ answerOf jumpAt 0 b1 0 0 ⌝ }
 {
     if b1 % 2 == 0 {
-        Decoded::Found(Instruction::JumpAt(RegAddr(b1)), 2)
+        Found(Instruction::JumpAt(RegAddr(b1)), 2, NO_FLAGS)
     } else {
         Decoded::OddPair
     }
@@ -103,7 +134,7 @@ fn jump_at(b1: u8) -> Decoded
 
 // Columns 2 to 6.
 pub fn alu_column(low: u8, row: u8, b1: u8, b2: u8, b3: u8) -> Decoded
-    ensures { λ r. ⌜ decoded r ≡ formOf (aluColumn low row) row b1 b2 b3 ⌝ }
+    ensures { λ r. ⌜ decoded r ≡ answerOf (aluColumn low row) row b1 b2 b3 ⌝ }
 {
     match alu_row(row) {
         AluRow::Op(a) => alu_form(low, a, row, b1, b2, b3),
@@ -130,30 +161,48 @@ fn unary_row(row: u8) -> UnaryRow
     }
 }
 
+// The flags that an operation on one byte names.
+fn unary_names(op: Unary) -> FlagSet
+    ensures { λ r. ⌜ r ≡ unaryNames op ⌝ }
+{
+    match op {
+        Unary::Dec => RESULT_FLAGS,
+        Unary::Rlc => ALL_FLAGS,
+        Unary::Inc => RESULT_FLAGS,
+        Unary::Com => RESULT_FLAGS,
+        Unary::Rl => ALL_FLAGS,
+        Unary::Clr => NO_FLAGS,
+        Unary::Rrc => ALL_FLAGS,
+        Unary::Sra => ALL_FLAGS,
+        Unary::Rr => ALL_FLAGS,
+    }
+}
+
 // Columns 0 and 1.
 pub fn unary_column(low: u8, row: u8, b1: u8, b2: u8, b3: u8) -> Decoded
-    ensures { λ r. ⌜ decoded r ≡ formOf (unaryColumn low row) row b1 b2 b3 ⌝ }
+    ensures { λ r. ⌜ decoded r ≡ answerOf (unaryColumn low row) row b1 b2 b3 ⌝ }
 {
     match unary_row(row) {
         UnaryRow::Op(u) => {
+            let names = unary_names(u);
             if low == 0 {
-                Decoded::Found(Instruction::UnaryReg(u, RegAddr(b1)), 2)
+                Found(Instruction::UnaryReg(u, RegAddr(b1)), 2, names)
             } else {
-                Decoded::Found(Instruction::UnaryAt(u, RegAddr(b1)), 2)
+                Found(Instruction::UnaryAt(u, RegAddr(b1)), 2, names)
             }
         }
         UnaryRow::Pop => {
             if low == 0 {
-                Decoded::Found(Instruction::Pop(RegAddr(b1)), 2)
+                Found(Instruction::Pop(RegAddr(b1)), 2, NO_FLAGS)
             } else {
-                Decoded::Found(Instruction::PopAt(RegAddr(b1)), 2)
+                Found(Instruction::PopAt(RegAddr(b1)), 2, NO_FLAGS)
             }
         }
         UnaryRow::Push => {
             if low == 0 {
-                Decoded::Found(Instruction::Push(RegAddr(b1)), 2)
+                Found(Instruction::Push(RegAddr(b1)), 2, NO_FLAGS)
             } else {
-                Decoded::Found(Instruction::PushAt(RegAddr(b1)), 2)
+                Found(Instruction::PushAt(RegAddr(b1)), 2, NO_FLAGS)
             }
         }
         UnaryRow::Other => {

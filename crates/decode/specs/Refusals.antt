@@ -11,16 +11,17 @@ use Rattle.base.specs.Choice.{pick}
 use Rattle.base.specs.ChoiceLaws.{pick-has}
 use Rattle.base.specs.Outcome.{Outcome}
 use Rattle.base.specs.Outcome.Outcome.{value, refused}
+use Rattle.isa.specs.declared.FlagSet.{FlagSet}
 use Rattle.isa.specs.declared.Instruction.{Instruction}
-use Rattle.isa.specs.Map.{Cell, cellOf, cellLength}
+use Rattle.isa.specs.Map.{Cell, cellOf, cellLength, cellNames}
 use Rattle.isa.specs.Map.Cell.{empty, unary, unaryAt, pop, popAt, push, pushAt, jumpAt, callAt, aluWork, aluWorkAt, aluReg, aluRegAt, aluImm, ldcDec, ldcInc, ldcLoad, ldcStore}
 use Rattle.isa.specs.Map.Cell.{loadReg, loadRegAt, loadImm, loadAtImm, loadAtReg, call, loadIndexed, storeIndexed, ldcLoadLong, ldcStoreLong}
 use Rattle.isa.specs.Map.Cell.{loadWorkAt, loadAtWork, ldcLoadShort, ldcStoreShort, loadWorkReg, loadRegWork, jumpRel, loadWorkImm, jump, incWork, implied}
-use Rattle.columns.specs.Form.{formOf}
+use Rattle.columns.specs.Form.{formOf, naming, answerOf}
 use Rattle.decode.specs.Decode.{decodeAt}
 
 -- a refusal has one of the decoder's numbers
-abbrev Numbered : Outcome (Instruction × ℕ) → Type 0
+abbrev Numbered : {A : Type 0} → Outcome A → Type 0
 Numbered (value d) = Unit {0}
 Numbered (refused n) = (10 ≤ n) × (n ≤ 12)
 
@@ -70,12 +71,20 @@ form-numbered jump h b1 b2 b3 = tt
 form-numbered incWork h b1 b2 b3 = tt
 form-numbered (implied p) h b1 b2 b3 = tt
 
+-- the flags beside it do not matter
+naming-numbered : (f : FlagSet) (o : Outcome (Instruction × ℕ)) → Numbered o → Numbered (naming f o)
+naming-numbered f (value d) h = tt
+naming-numbered f (refused n) h = h
+
+answer-numbered : (c : Cell) (h b1 b2 b3 : ℕ) → Numbered (answerOf c h b1 b2 b3)
+answer-numbered c h b1 b2 b3 = naming-numbered (cellNames c) (formOf c h b1 b2 b3) (form-numbered c h b1 b2 b3)
+
 decode-numbered : (s : List ℕ) (at : ℕ) → Numbered (decodeAt s at)
 unfolding decodeAt
 decode-numbered s at =
     pick-has Numbered (ltb at (length s)) _ _
     (λ t. pick-has Numbered (leb (cellLength (cellOf (getD s at 0))) (length s - at)) _ _
-    (λ u. form-numbered (cellOf (getD s at 0)) (getD s at 0 / 16) (getD s (at + 1) 0) (getD s (at + 2) 0) (getD s (at + 3) 0))
+    (λ u. answer-numbered (cellOf (getD s at 0)) (getD s at 0 / 16) (getD s (at + 1) 0) (getD s (at + 2) 0) (getD s (at + 3) 0))
     (λ u. (omega arith, omega arith)))
     (λ t. (omega arith, omega arith))
 

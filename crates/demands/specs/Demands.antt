@@ -22,11 +22,12 @@ use Rattle.base.specs.Choice.{pick}
 use Rattle.base.specs.Lengths.{romLength}
 use Rattle.base.specs.Outcome.{Outcome}
 use Rattle.base.specs.Outcome.Outcome.{value, refused}
+use Rattle.isa.specs.declared.FlagSet.{FlagSet}
 use Rattle.isa.specs.declared.Instruction.{Instruction}
 use Rattle.isa.specs.Map.{cellLength}
 use Rattle.isa.specs.Map.Cell.{empty}
 use Rattle.isa.specs.Printed as manual
-use Rattle.columns.specs.Form.{formOf}
+use Rattle.columns.specs.Form.{answerOf}
 use Rattle.decode.specs.Decode.{decodeAt}
 use Rattle.decode.specs.Refusals.{decode-number}
 use Rattle.encode.specs.Encode.{encodeAnswer, encodeInto}
@@ -148,18 +149,19 @@ check-refuses = verdict-number
 
 -- Demand 2. Each of the 256 first bytes decodes as the manual and 01 say, --
 
--- by the cell of table 6-5 for the first byte, as printed but for 01's ADC and the pages of EFH and FFH, and by the bytes behind it
+-- by the cell of table 6-5 for the first byte, as printed but for 01's ADC and the pages of EFH and FFH, and by the bytes behind it; the flags beside it
+-- are request 07's
 pub first-bytes-as-printed : (s : List ℕ) → Bytes s → (at : ℕ) → at < length s
     → decodeAt s at
     ≡ (let cell = getD manual.printed (getD s at 0) empty in
     pick (leb (cellLength cell) (length s - at))
-    (formOf cell (getD s at 0 / 16) (getD s (at + 1) 0) (getD s (at + 2) 0) (getD s (at + 3) 0))
+    (answerOf cell (getD s at 0 / 16) (getD s (at + 1) 0) (getD s (at + 2) 0) (getD s (at + 3) 0))
     (refused 10))
 unfolding decodeAt
 first-bytes-as-printed s byte at h = rw (manual.as-printed (getD s at 0) (byte at), lt-ltb at (length s) h)
 
 -- encoding what was decoded restores its bytes, --
-pub decoded-encodes-back : (s : List ℕ) (at : ℕ) → Bytes s → (i : Instruction) (n : ℕ) (out : List ℕ) → decodeAt s at ≡ value (i, n)
+pub decoded-encodes-back : (s : List ℕ) (at : ℕ) → Bytes s → (i : Instruction) (n : ℕ) (f : FlagSet) (out : List ℕ) → decodeAt s at ≡ value (i, n, f)
     → (encodeAnswer i (length out) ≡ pick (ltb (length out) n) (refused 7) (value n))
     × (encodeInto i out ≡ pick (ltb (length out) n) out (take n (drop at s) ++ drop n out))
 decoded-encodes-back = re-encoded

@@ -1,11 +1,37 @@
 -- The requests of document 02 that have landed, word for word, with what each states as a theorem over the definitions.
 -- Assumes nothing.
-use Prim.Native.Nat.{ℕ, _+_, _-_, _%_, _≤_}
+use Prim.Native.Nat.{ℕ, _+_, _-_, _%_, _≤_, _<_}
 use mathlib.Core.Path.{_≡_}
 use mathlib.Core.Bool.{true, false}
-use mathlib.Core.List.{List}
+use mathlib.Core.List.{List, _++_}
 use lib.ListN.{length, getD}
+use Rattle.base.specs.declared.RomAddr.{RomAddr}
+use Rattle.base.specs.Cells.{Bytes}
+use Rattle.base.specs.Formula.{Holds}
 use Rattle.base.specs.Outcome.Outcome.{value, refused}
+use Rattle.isa.specs.declared.Flag.{Flag}
+use Rattle.isa.specs.declared.FlagSet.{FlagSet}
+use Rattle.isa.specs.declared.Implied.{Implied}
+use Rattle.isa.specs.declared.Instruction.{Instruction}
+use Rattle.isa.specs.Flags.{flagIn, allFlags}
+use Rattle.isa.specs.Map.{namesOf}
+use Rattle.isa.specs.PrintedFlags as printed
+use Rattle.isa.specs.PrintedFlags.{printedFlags}
+use Rattle.decode.specs.Decode.{decodeAt, withoutFlags}
+use Rattle.decode.specs.Names as names
+use Rattle.instruction_bytes.specs.Bytes.{bytesOf}
+use Rattle.roundtrip.specs.EncodedDecodes.{encoded-decodes}
+use Rattle.action.specs.Action.{actionOf}
+use Rattle.semantics.specs.declared.State.{State}
+use Rattle.semantics.specs.Step.{requested, entryDue, behind, stepOf}
+use Rattle.certificate.specs.declared.Flow.the-variants.{Step, Call}
+use Rattle.certificate.specs.Layout.{Certificate}
+use Rattle.safety.specs.Rules.{noCell, present, Edge, edge26, rule26}
+use Rattle.safety.specs.Verdicts.{summaryAt}
+use Rattle.flag_names.specs.Stores.{storesFlags}
+use Rattle.flag_names.specs.Kept.{flagsIn, unnamed-kept, iret-named}
+use Rattle.flag_names.specs.Witnesses.{ChangedBy, named-changed}
+use Rattle.flag_names.specs.Compares.{Survives, EdgeFollows, compare-survives, survives-call, none-behind-call}
 use Rattle.hex_line.specs.declared.Fields.{Fields}
 use Rattle.hex_line.specs.declared.Reader.{Reader}
 use Rattle.hex_line.specs.Record.{sumOf, countOf, parseBody, bodyLength}
@@ -31,6 +57,61 @@ pub line-sum : (line : List ℕ) (f : Fields) → parseBody line ≡ value f →
 line-sum = sums.line-sum
 
 -- every line kept its answer: this request left `readLine` and `lineBuffer`, which the contracts of `check_line` and `read_line` name, as they were
+
+-- Request 07. Show which flags an instruction touches. The listing we print for reviewers should name the flags among C, Z, S and V that an instruction
+-- may change. The decoder's answer carries them from now on, and machine and checker use this answer, however they do it now; the encoder ignores it.
+-- The first byte alone decides the names. A flag not named is unchanged by the step, unless the instruction stores into FLAGS itself, and each one named
+-- is changed by some step of that first byte without such a store; IRET names all four. Behind a CALL a compare still never holds; elsewhere it survives
+-- exactly those instructions that name no flag and cannot write its cell --
+
+-- the flags that the pages of chapter 6 say are affected, typed by first byte (`isa` S`PrintedFlags`), are those that the map gives
+pub flags-as-printed : (b : ℕ) → b < 256 → getD printedFlags b 0 ≡ namesOf b .0
+flags-as-printed = printed.flags-as-printed
+
+-- the decoder's answer carries them, and the first byte alone decides them
+pub first-byte-names : (s : List ℕ) (at : ℕ) (d : Instruction × ℕ × FlagSet) → decodeAt s at ≡ value d → d .2 ≡ namesOf (getD s at 0)
+first-byte-names = names.names-by-first
+
+-- machine and checker use the decoder's answer d: `afterDecode` (`semantics` S`Step`) hands d .2 to `executeOf`, `summaryFrom` (`safety` S`Verdicts`) to
+-- `summaryOf`, and neither has another list. The encoder takes an instruction alone; what it writes decodes to that instruction
+pub encoded-decodes-back : (before behind : List ℕ) (i : Instruction) (bs : List ℕ) → bytesOf i ≡ value bs
+    → withoutFlags (decodeAt (before ++ (bs ++ behind)) (length before)) ≡ value (i, length bs)
+encoded-decodes-back = encoded-decodes
+
+-- a flag not named is unchanged by the step: one that is no interrupt entry, and whose instruction does not store into FLAGS (`flag_names` S`Stores`)
+pub unnamed-flag-stays : (image : List ℕ) → Bytes image → (s : State) (rec : List ℕ) (d : Instruction × ℕ × FlagSet) → decodeAt image (s .pc .0) ≡ value d
+    → (g : Flag) → flagIn g (d .2 .0) ≡ false
+    → storesFlags (actionOf (d .0) (behind (s .pc) (d .1))) (requested s rec) rec (behind (s .pc) (d .1)) ≡ false
+    → entryDue (requested s rec) (s .mode) ≡ false
+    → flagIn g (flagsIn (stepOf image s rec .state .regs)) ≡ flagIn g (flagsIn (s .regs))
+unnamed-flag-stays = unnamed-kept
+
+-- each one named is changed by some step of that first byte without such a store
+pub named-flag-changes : (first : ℕ) → first < 256 → (g : Flag) → flagIn g (namesOf first .0) ≡ true → ChangedBy first g
+named-flag-changes = named-changed
+
+-- IRET names all four
+pub iret-names-all : (s : List ℕ) → Bytes s → (at : ℕ) (d : Instruction × ℕ × FlagSet) → decodeAt s at ≡ value d → d .0 ≡ Instruction.Implied Implied.Iret
+    → d .2 ≡ allFlags
+iret-names-all = iret-named
+
+-- behind a CALL a compare never holds
+pub no-compare-behind-call : (C : Certificate) (image : List ℕ) (a next : ℕ) (to : RomAddr) → summaryAt image a .flow ≡ Call to
+    → Holds (rule26 C a (summaryAt image a) next) → C .compareCell next ≡ noCell
+no-compare-behind-call = none-behind-call
+
+-- elsewhere it survives exactly the instructions that name no flag and cannot write its cell (`Survives`): rule 26 says of an edge that the claims follow and
+-- that a compare at its end is made by this very CP or survives, and no more
+pub compare-survives-exactly : (C : Certificate) (image : List ℕ) (a : ℕ) (d : Instruction × ℕ × FlagSet) → Bytes image → decodeAt image a ≡ value d
+    → (cc : ℕ) (to : RomAddr) → summaryAt image a .flow ≡ Step cc to → (e : Edge)
+    → (Holds (edge26 C a (summaryAt image a) e) → EdgeFollows C image a d e) × (EdgeFollows C image a d e → Holds (edge26 C a (summaryAt image a) e))
+compare-survives-exactly = compare-survives
+
+-- at the start that a CALL goes to a compare is the one at the CALL
+pub compare-at-callee : (C : Certificate) (image : List ℕ) (a : ℕ) (d : Instruction × ℕ × FlagSet) → Bytes image → decodeAt image a ≡ value d
+    → (next : ℕ) (to : RomAddr) → summaryAt image a .flow ≡ Call to → Holds (rule26 C a (summaryAt image a) next)
+    → Holds (present (C .compareCell (to .0))) → Survives C image a d (to .0)
+compare-at-callee = survives-call
 
 -- Request 13. Lower-case HEX goes. Our programmers' sockets reject small letters, and mixed files caused returned chips. From now on the reader refuses
 -- them. For files already in the drawer one separate call turns in place an old line that breaks none of 1 to 3 as they stood into its upper-case line;

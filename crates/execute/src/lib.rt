@@ -1,14 +1,15 @@
-// What each action does, on registers in place: one function for each kind of action, and the choice among them.
+// What each action does, on registers in place: one function for each kind of action, and the choice among them. Of the flags that it computes
+// those are set which the decoder named.
 // The functions are for the crate `step`, which makes steps of them.
 ghost use mathlib.Core.Path.{_≡_};
 ghost use mathlib.Core.Bool.{true};
 ghost use Rattle.base.specs.Choice.{pick};
 ghost use Rattle.chip.specs.Interrupts.{setInterruptsOf};
-ghost use Rattle.semantics.specs.Execute.{goesOn, storeIf, binaryOf, modifyOf, loadInto, jumpOf, jumpPairOf, carryChanged, carryOf, stopOf, executeOf};
+ghost use Rattle.semantics.specs.declared.Mode.the-variants.{Running};
+ghost use Rattle.semantics.specs.Execute.{leaves, goesOn, storeIf, binaryOf, modifyOf, loadInto, jumpOf, jumpPairOf, carryChanged, carryOf, stopOf, executeOf};
 use action::Action;
 use action::CarryChange;
 use action::Operand;
-use alu::FlagUpdate;
 use base::FLAGS_INDEX;
 use base::RegAddr;
 use base::RomAddr;
@@ -18,6 +19,7 @@ use chip::Registers;
 use code_loads::load_code;
 use code_loads::load_code_step;
 use isa::Alu;
+use isa::FlagSet;
 use isa::Unary;
 use semantics::Mode;
 use semantics::Next;
@@ -31,9 +33,17 @@ fn store_if(regs: &mut Registers, on: bool, a: RegAddr, v: u8)
 }
 
 // ADD, ADC, SUB, SBC, OR, AND, XOR; TCM, TM, CP.
-fn binary(op: Alu, d: Operand, s: Operand, regs: &mut Registers, rec: &Inputs, pc: RomAddr) -> Next
-    ensures regs { λ _. ⌜ now (regs .exit) ≡ binaryOf op d s (now (regs .entry)) (now (rec .entry)) pc .regs ⌝ }
-    ensures next { λ r. ⌜ r ≡ binaryOf op d s (now (regs .entry)) (now (rec .entry)) pc .next ⌝ }
+fn binary(
+    op: Alu,
+    d: Operand,
+    s: Operand,
+    names: FlagSet,
+    regs: &mut Registers,
+    rec: &Inputs,
+    pc: RomAddr,
+) -> Next
+    ensures regs { λ _. ⌜ now (regs .exit) ≡ binaryOf op d s names (now (regs .entry)) (now (rec .entry)) pc .regs ⌝ }
+    ensures next { λ r. ⌜ r ≡ binaryOf op d s names (now (regs .entry)) (now (rec .entry)) pc .next ⌝ }
 {
     let p = operands::place_of(regs, rec, d);
     let q = operands::fetch(regs, rec, s);
@@ -42,15 +52,21 @@ fn binary(op: Alu, d: Operand, s: Operand, regs: &mut Registers, rec: &Inputs, p
     let c = alu::carry(regs[FLAGS_INDEX]);
     let r = alu::operate(op, x, q.value, c);
     store_if(regs, alu::stores(op), a, r.value);
-    let f = r.flags;
-    operands::with_flags(regs, f);
+    operands::with_flags(regs, names, r.flags);
     operands::goes_on(p.ok & q.ok, pc)
 }
 
 // INC, DEC, COM, CLR, RL, RLC, RR, RRC, SRA.
-fn modify(op: Unary, d: Operand, regs: &mut Registers, rec: &Inputs, pc: RomAddr) -> Next
-    ensures regs { λ _. ⌜ now (regs .exit) ≡ modifyOf op d (now (regs .entry)) (now (rec .entry)) pc .regs ⌝ }
-    ensures next { λ r. ⌜ r ≡ modifyOf op d (now (regs .entry)) (now (rec .entry)) pc .next ⌝ }
+fn modify(
+    op: Unary,
+    d: Operand,
+    names: FlagSet,
+    regs: &mut Registers,
+    rec: &Inputs,
+    pc: RomAddr,
+) -> Next
+    ensures regs { λ _. ⌜ now (regs .exit) ≡ modifyOf op d names (now (regs .entry)) (now (rec .entry)) pc .regs ⌝ }
+    ensures next { λ r. ⌜ r ≡ modifyOf op d names (now (regs .entry)) (now (rec .entry)) pc .next ⌝ }
 {
     let p = operands::place_of(regs, rec, d);
     let a = p.addr;
@@ -58,8 +74,7 @@ fn modify(op: Unary, d: Operand, regs: &mut Registers, rec: &Inputs, pc: RomAddr
     let c = alu::carry(regs[FLAGS_INDEX]);
     let r = alu::modify(op, x, c);
     chip::store(regs, a, r.value);
-    let f = r.flags;
-    operands::with_flags(regs, f);
+    operands::with_flags(regs, names, r.flags);
     operands::goes_on(p.ok, pc)
 }
 
@@ -102,23 +117,23 @@ fn jump_pair(p: RegAddr, regs: &Registers, rec: &Inputs) -> Next
 }
 
 // What RCF, SCF and CCF make of C.
-fn carry_changed(change: CarryChange, c: bool) -> FlagUpdate
+fn carry_changed(change: CarryChange, c: bool) -> bool
     ensures { λ r. ⌜ r ≡ carryChanged change c ⌝ }
 {
     match change {
-        CarryChange::Reset => alu::reset_carry(),
-        CarryChange::Set => alu::set_carry(),
-        CarryChange::Complement => alu::complement_carry(c),
+        CarryChange::Reset => false,
+        CarryChange::Set => true,
+        CarryChange::Complement => !c,
     }
 }
 
 // RCF, SCF, CCF.
-fn change_carry(change: CarryChange, regs: &mut Registers, pc: RomAddr) -> Next
-    ensures regs { λ _. ⌜ now (regs .exit) ≡ carryOf change (now (regs .entry)) pc .regs ⌝ }
-    ensures next { λ r. ⌜ r ≡ carryOf change (now (regs .entry)) pc .next ⌝ }
+fn change_carry(change: CarryChange, names: FlagSet, regs: &mut Registers, pc: RomAddr) -> Next
+    ensures regs { λ _. ⌜ now (regs .exit) ≡ carryOf change names (now (regs .entry)) pc .regs ⌝ }
+    ensures next { λ r. ⌜ r ≡ carryOf change names (now (regs .entry)) pc .next ⌝ }
 {
-    let c = alu::carry(regs[FLAGS_INDEX]);
-    operands::with_flags(regs, carry_changed(change, c));
+    let c = carry_changed(change, alu::carry(regs[FLAGS_INDEX]));
+    operands::with_flags(regs, names, alu::flags_byte(c, false, false, false));
     operands::goes_on(true, pc)
 }
 
@@ -145,37 +160,45 @@ fn stop(regs: &Registers, pc: RomAddr) -> Next
     operands::goes_on(true, RomAddr(0x100))
 }
 
-// One instruction; pc is the address behind it.
+// LDE, and LDC that writes.
+fn external(pc: RomAddr) -> Next
+    ensures { λ r. ⌜ r ≡ leaves pc Running 14 ⌝ }
+{
+    Next {
+        pc: pc,
+        mode: Mode::Running,
+        stop: 14,
+    }
+}
+
+// One instruction with the flags that it names; pc is the address behind it.
 pub fn execute(
     action: Action,
+    names: FlagSet,
     image: &[u8],
     regs: &mut Registers,
     rec: &Inputs,
     pc: RomAddr,
 ) -> Next
-    ensures regs { λ _. ⌜ now (regs .exit) ≡ executeOf action (now (image .entry)) (now (regs .entry)) (now (rec .entry)) pc .regs ⌝ }
-    ensures next { λ r. ⌜ r ≡ executeOf action (now (image .entry)) (now (regs .entry)) (now (rec .entry)) pc .next ⌝ }
+    ensures regs { λ _. ⌜ now (regs .exit) ≡ executeOf action names (now (image .entry)) (now (regs .entry)) (now (rec .entry)) pc .regs ⌝ }
+    ensures next { λ r. ⌜ r ≡ executeOf action names (now (image .entry)) (now (regs .entry)) (now (rec .entry)) pc .next ⌝ }
 {
     match action {
-        Action::Binary(op, d, s) => binary(op, d, s, regs, rec, pc),
-        Action::Modify(op, d) => modify(op, d, regs, rec, pc),
+        Action::Binary(op, d, s) => binary(op, d, s, names, regs, rec, pc),
+        Action::Modify(op, d) => modify(op, d, names, regs, rec, pc),
         Action::Load(d, s) => load(d, s, regs, rec, pc),
         Action::Push(s) => stack::push_operand(s, regs, rec, pc),
         Action::Pop(d) => stack::pop_operand(d, regs, rec, pc),
         Action::LoadCode(d, from) => load_code(d, from, image, regs, rec, pc),
         Action::LoadCodeStep(d, p, up) => load_code_step(d, p, up, image, regs, rec, pc),
-        Action::External => Next {
-            pc: pc,
-            mode: Mode::Running,
-            stop: 14,
-        },
+        Action::External => external(pc),
         Action::Jump(cc, to) => jump(cc, to, regs, pc),
         Action::JumpPair(p) => jump_pair(p, regs, rec),
         Action::Call(to) => stack::call(to, regs, pc),
         Action::CallPair(p) => stack::call_pair(p, regs, rec, pc),
         Action::Return => stack::return_from_call(regs, rec),
         Action::InterruptReturn => stack::interrupt_return(regs, rec),
-        Action::Carry(change) => change_carry(change, regs, pc),
+        Action::Carry(change) => change_carry(change, names, regs, pc),
         Action::Interrupts(on) => switch_interrupts(on, regs, pc),
         Action::Idle => Next {
             pc: pc,

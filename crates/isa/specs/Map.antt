@@ -1,4 +1,4 @@
--- The opcode map (table 6-5), by low nibble (column) and high nibble (row), and each form's length and cycles.
+-- The opcode map (table 6-5), by low nibble (column) and high nibble (row); each form's length and cycles, and the flags that it names.
 -- Assumes nothing.
 use Prim.Native.Nat.{ℕ, _/_, _%_}
 use mathlib.Core.List.{List, [], _∷_}
@@ -12,6 +12,8 @@ use Rattle.isa.specs.declared.Unary.{Unary}
 use Rattle.isa.specs.declared.Unary.the-variants.{Dec, Rlc, Inc, Com, Rl, Clr, Rrc, Sra, Rr}
 use Rattle.isa.specs.declared.Implied.{Implied}
 use Rattle.isa.specs.declared.Implied.the-variants.{Idle, Stop, Di, Ei, Ret, Iret, Rcf, Scf, Ccf, Nop}
+use Rattle.isa.specs.declared.FlagSet.{FlagSet}
+use Rattle.isa.specs.Flags.{noFlags, carryFlag, resultFlags, allFlags}
 
 -- A cell of the map: what the first byte alone says. In columns 8, 9 and B to E the row is an operand.
 pub data Cell : Type 0 where
@@ -244,6 +246,86 @@ cellCycles jump = 8
 cellCycles incWork = 4
 cellCycles (implied p) = impliedCycles p
 
+-- Flags (each page's; 02, request 07): those that an instruction may change. An operation on two bytes: a logical one leaves C alone
+abbrev pub aluNames : Alu → FlagSet
+aluNames Add = allFlags
+aluNames Adc = allFlags
+aluNames Sub = allFlags
+aluNames Sbc = allFlags
+aluNames Or = resultFlags
+aluNames And = resultFlags
+aluNames Tcm = resultFlags
+aluNames Tm = resultFlags
+aluNames Cp = allFlags
+aluNames Xor = resultFlags
+
+-- on one byte: INC, DEC and COM leave C alone, CLR all four
+abbrev pub unaryNames : Unary → FlagSet
+unaryNames Dec = resultFlags
+unaryNames Rlc = allFlags
+unaryNames Inc = resultFlags
+unaryNames Com = resultFlags
+unaryNames Rl = allFlags
+unaryNames Clr = noFlags
+unaryNames Rrc = allFlags
+unaryNames Sra = allFlags
+unaryNames Rr = allFlags
+
+-- IRET loads FLAGS
+abbrev pub impliedNames : Implied → FlagSet
+impliedNames Idle = noFlags
+impliedNames Stop = noFlags
+impliedNames Di = noFlags
+impliedNames Ei = noFlags
+impliedNames Ret = noFlags
+impliedNames Iret = allFlags
+impliedNames Rcf = carryFlag
+impliedNames Scf = carryFlag
+impliedNames Ccf = carryFlag
+impliedNames Nop = noFlags
+
+-- none where no instruction is
+abbrev pub cellNames : Cell → FlagSet
+cellNames empty = noFlags
+cellNames (unary u) = unaryNames u
+cellNames (unaryAt u) = unaryNames u
+cellNames pop = noFlags
+cellNames popAt = noFlags
+cellNames push = noFlags
+cellNames pushAt = noFlags
+cellNames jumpAt = noFlags
+cellNames (aluWork a) = aluNames a
+cellNames (aluWorkAt a) = aluNames a
+cellNames (aluReg a) = aluNames a
+cellNames (aluRegAt a) = aluNames a
+cellNames (aluImm a) = aluNames a
+cellNames ldcDec = noFlags
+cellNames ldcInc = noFlags
+cellNames ldcLoad = noFlags
+cellNames ldcStore = noFlags
+cellNames loadReg = noFlags
+cellNames loadRegAt = noFlags
+cellNames loadImm = noFlags
+cellNames loadAtImm = noFlags
+cellNames loadAtReg = noFlags
+cellNames callAt = noFlags
+cellNames call = noFlags
+cellNames loadIndexed = noFlags
+cellNames storeIndexed = noFlags
+cellNames ldcLoadLong = noFlags
+cellNames ldcStoreLong = noFlags
+cellNames loadWorkAt = noFlags
+cellNames loadAtWork = noFlags
+cellNames ldcLoadShort = noFlags
+cellNames ldcStoreShort = noFlags
+cellNames loadWorkReg = noFlags
+cellNames loadRegWork = noFlags
+cellNames jumpRel = noFlags
+cellNames loadWorkImm = noFlags
+cellNames jump = noFlags
+cellNames incWork = unaryNames Inc
+cellNames (implied p) = impliedNames p
+
 -- what a first byte says
 abbrev pub cellOf : ℕ → Cell
 cellOf b = cellAt (b % 16) (b / 16)
@@ -253,3 +335,6 @@ lengthOf b = cellLength (cellOf b)
 
 abbrev pub cyclesOf : ℕ → ℕ
 cyclesOf b = cellCycles (cellOf b)
+
+abbrev pub namesOf : ℕ → FlagSet
+namesOf b = cellNames (cellOf b)

@@ -1,5 +1,6 @@
-// The S3F9454's instruction forms, and each first byte's length and cycles.
+// The S3F9454's instruction forms, the flags that they name, and each first byte's length and cycles.
 ghost use mathlib.Core.Path.{_≡_};
+ghost use Rattle.isa.specs.Flags.{flagIn};
 ghost use Rattle.isa.specs.Map.{lengthOf, cyclesOf};
 use base::RegAddr;
 use base::RomAddr;
@@ -105,9 +106,30 @@ pub enum Instruction {
     Implied(Implied),
 }
 
-// What decoding answers: an instruction and its length; or 10, not wholly there; 11, undefined; 12, an odd pair for JP or CALL.
+// The four flags of FLAGS: C, Z, S, V.
+pub enum Flag {
+    Carry,
+    Zero,
+    Sign,
+    Overflow,
+}
+
+// A set of flags, by their bits in FLAGS: C is 80H, Z 40H, S 20H, V 10H.
+pub struct FlagSet(pub u8);
+
+pub const NO_FLAGS: FlagSet = FlagSet(0);
+
+pub const CARRY_FLAG: FlagSet = FlagSet(0x80);
+
+// Z, S and V.
+pub const RESULT_FLAGS: FlagSet = FlagSet(0x70);
+
+pub const ALL_FLAGS: FlagSet = FlagSet(0xF0);
+
+// What decoding answers: an instruction, its length, and the flags that it names: those that it may change. Or 10, not wholly there; 11,
+// undefined; 12, an odd pair for JP or CALL.
 pub enum Decoded {
-    Found(Instruction, u8),
+    Found(Instruction, u8, FlagSet),
     CutOff,
     Undefined,
     OddPair,
@@ -632,6 +654,18 @@ const CYCLES: [u8; 256] = [
     4,
     4,
 ];
+
+// Whether a flag is in a set.
+pub fn names(set: FlagSet, flag: Flag) -> bool
+    ensures { λ r. ⌜ r ≡ flagIn flag (set .0) ⌝ }
+{
+    match flag {
+        Flag::Carry => set.0 / 128 % 2 == 1,
+        Flag::Zero => set.0 / 64 % 2 == 1,
+        Flag::Sign => set.0 / 32 % 2 == 1,
+        Flag::Overflow => set.0 / 16 % 2 == 1,
+    }
+}
 
 // The length of the instruction that starts with this byte, or 0.
 pub fn length_of(first: u8) -> u8

@@ -1,4 +1,5 @@
-// Decodes and encodes one instruction of every first byte, and the examples of the answers 7, 8, 10, 11 and 12; tells every first byte's length.
+// Decodes and encodes one instruction of every first byte, with the flags that it names, and the examples of the answers 7, 8, 10, 11 and 12; tells
+// every first byte's length.
 use base::IMAGE_LENGTH;
 use base::RegAddr;
 use base::RomAddr;
@@ -8,6 +9,8 @@ use encode::Encoded;
 use encode::encode;
 use isa::Alu;
 use isa::Decoded;
+use isa::Flag;
+use isa::FlagSet;
 use isa::Implied;
 use isa::Instruction;
 use isa::Unary;
@@ -198,7 +201,7 @@ fn write_form(i: Instruction) {
 // An answer's number: of bytes, 1 to 4, or of the refusal.
 fn decoded(r: Decoded) -> u8 {
     match r {
-        Decoded::Found(_, n) => n,
+        Decoded::Found(_, n, _) => n,
         Decoded::CutOff => 10,
         Decoded::Undefined => 11,
         Decoded::OddPair => 12,
@@ -259,13 +262,32 @@ fn restored(i: Instruction, n: u8, bytes: &[u8; 4]) -> bool {
     check::same(&out, &wanted) & (done == n)
 }
 
-// The form with its operands, length, cycles, and whether it encodes to the same bytes.
-fn found(i: Instruction, n: u8, bytes: &[u8; 4]) {
+fn flag(names: FlagSet, flag: Flag, letter: &[u8]) {
+    if isa::names(names, flag) {
+        print(letter);
+    }
+}
+
+// The flags that an instruction names.
+fn flags(names: FlagSet) {
+    print(b" ");
+    if names.0 == 0 {
+        print(b"-");
+    }
+    flag(names, Flag::Carry, b"C");
+    flag(names, Flag::Zero, b"Z");
+    flag(names, Flag::Sign, b"S");
+    flag(names, Flag::Overflow, b"V");
+}
+
+// The form with its operands, length, cycles, flags, and whether it encodes to the same bytes.
+fn found(i: Instruction, n: u8, names: FlagSet, bytes: &[u8; 4]) {
     print(b" ");
     write_form(i);
     print(b";");
     number(n);
     number(isa::cycles_of(bytes[0]));
+    flags(names);
     if restored(i, n, bytes) {
         print(b" same");
     } else {
@@ -284,8 +306,8 @@ fn row(first: u8, second: u8) {
     let bytes = [first, second, 0x35, 0x46];
     row_name(first, second);
     let d = decode(&bytes, 0);
-    if let Decoded::Found(i, n) = d {
-        found(i, n, &bytes);
+    if let Decoded::Found(i, n, names) = d {
+        found(i, n, names, &bytes);
     } else {
         answer(decoded(d));
     }

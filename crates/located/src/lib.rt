@@ -6,6 +6,7 @@ ghost use Rattle.located.specs.Located.{locatedIn, locatedAt};
 use base::RomAddr;
 use certificate::Summary;
 use isa::Decoded;
+use isa::FlagSet;
 use isa::Instruction;
 
 // An instruction's summary, and the address behind it.
@@ -25,13 +26,13 @@ fn no_instruction(a: RomAddr) -> Located
     }
 }
 
-// The instruction of n bytes that was decoded at an address.
-fn decoded_at(i: Instruction, n: u8, a: RomAddr) -> Located
-    ensures { λ r. ⌜ r ≡ locatedIn (value (i, n)) (a .0) ⌝ }
+// The instruction of n bytes that was decoded at an address, with the flags that it names.
+fn decoded_at(i: Instruction, n: u8, names: FlagSet, a: RomAddr) -> Located
+    ensures { λ r. ⌜ r ≡ locatedIn (value (i, n, names)) (a .0) ⌝ }
 {
     let next = RomAddr(std::num::wrapping_add_u16(a.0, n as u16));
     Located {
-        summary: summary::summary_of(action::action_of(i, next)),
+        summary: summary::summary_of(action::action_of(i, next), names),
         next: next,
     }
 }
@@ -41,7 +42,7 @@ pub fn instruction_at(image: &[u8], a: RomAddr) -> Located
     ensures { λ r. ⌜ r ≡ locatedAt (now (image .entry)) (a .0) ⌝ }
 {
     match decode::decode(image, a.0 as usize) {
-        Decoded::Found(i, n) => decoded_at(i, n, a),
+        Decoded::Found(i, n, names) => decoded_at(i, n, names, a),
         Decoded::CutOff => no_instruction(a),
         Decoded::Undefined => no_instruction(a),
         Decoded::OddPair => no_instruction(a),

@@ -17,8 +17,6 @@ use Rattle.base.specs.Lengths.{romLength, recordLength}
 use Rattle.isa.specs.declared.Alu.{Alu}
 use Rattle.isa.specs.declared.Unary.{Unary}
 use Rattle.chip.specs.Registers.{keptOf}
-use Rattle.alu.specs.declared.FlagUpdate.{FlagUpdate}
-use Rattle.alu.specs.declared.FlagUpdate.the-variants.{Result, CarryResult}
 use Rattle.alu.specs.Operations.{operate, modify}
 use Rattle.semantics.specs.declared.Mode.the-variants.{Running}
 use Rattle.semantics.specs.declared.State.{State}
@@ -50,9 +48,9 @@ ascii (text._∷_ c s) = code c ∷ ascii s
 
 pub data Case : Type 0 where
   -- an operation on two bytes, with the carry before: its value and flags
-  operates : Alu → ℕ → ℕ → Bool → ℕ → FlagUpdate → Case
+  operates : Alu → ℕ → ℕ → Bool → ℕ → ℕ → Case
   -- on one byte
-  modifies : Unary → ℕ → ℕ → FlagUpdate → Case
+  modifies : Unary → ℕ → ℕ → ℕ → Case
   -- the step at an address of the image with this SP leaves a byte at a register
   steps : List ℕ → ℕ → ℕ → ℕ → ℕ → Case
   -- a register that holds a byte is written: what it then holds
@@ -79,21 +77,21 @@ abbrev pub AllHold : List Case → Type 0
 AllHold [] = Unit {0}
 AllHold (c ∷ cs) = CaseHolds c × AllHold cs
 
--- flags: C, Z, S, V; INC names no C
+-- flags: C is 80H, Z 40H, S 20H, V 10H; INC names no C
 abbrev pub cases : List Case
 cases =
     -- (a) ADC 10H, 03H, C=1: 14H
-    operates Alu.Adc 0x10 0x03 true 0x14 (CarryResult false false false false)
+    operates Alu.Adc 0x10 0x03 true 0x14 0x00
     -- (b) SUB 21H, 90H: 91H, C S V
-    ∷ operates Alu.Sub 0x21 0x90 false 0x91 (CarryResult true false true true)
+    ∷ operates Alu.Sub 0x21 0x90 false 0x91 0xB0
     -- (c) SUB 21H, 65H: BCH, C S, V=0
-    ∷ operates Alu.Sub 0x21 0x65 false 0xBC (CarryResult true false true false)
+    ∷ operates Alu.Sub 0x21 0x65 false 0xBC 0xA0
     -- (d) INC 7FH: 80H, V
-    ∷ modifies Unary.Inc 0x7F 0x80 (Result false true true)
+    ∷ modifies Unary.Inc 0x7F 0x80 0x30
     -- (e) RL AAH: 55H, C V
-    ∷ modifies Unary.Rl 0xAA 0x55 (CarryResult true false false true)
+    ∷ modifies Unary.Rl 0xAA 0x55 0x90
     -- (f) SRA 9AH: CDH, C=0
-    ∷ modifies Unary.Sra 0x9A 0xCD (CarryResult false false true false)
+    ∷ modifies Unary.Sra 0x9A 0xCD 0x20
     -- (g) CALL 0521H at 0A47H, SP B2H: B0H holds 0AH, B1H 4AH
     ∷ steps callImage 0xA47 0xB2 0xB0 0x0A
     ∷ steps callImage 0xA47 0xB2 0xB1 0x4A
@@ -178,27 +176,27 @@ case-g : CaseHolds (steps callImage 0xA47 0xB2 0xB0 0x0A) × CaseHolds (steps ca
 unfolding opened callImage stateAt resetState
 case-g = ((refl, refl), (refl, refl))
 
-case-a : CaseHolds (operates Alu.Adc 0x10 0x03 true 0x14 (CarryResult false false false false))
+case-a : CaseHolds (operates Alu.Adc 0x10 0x03 true 0x14 0x00)
 unfolding opened
 case-a = refl
 
-case-b : CaseHolds (operates Alu.Sub 0x21 0x90 false 0x91 (CarryResult true false true true))
+case-b : CaseHolds (operates Alu.Sub 0x21 0x90 false 0x91 0xB0)
 unfolding opened
 case-b = refl
 
-case-c : CaseHolds (operates Alu.Sub 0x21 0x65 false 0xBC (CarryResult true false true false))
+case-c : CaseHolds (operates Alu.Sub 0x21 0x65 false 0xBC 0xA0)
 unfolding opened
 case-c = refl
 
-case-d : CaseHolds (modifies Unary.Inc 0x7F 0x80 (Result false true true))
+case-d : CaseHolds (modifies Unary.Inc 0x7F 0x80 0x30)
 unfolding opened
 case-d c = refl
 
-case-e : CaseHolds (modifies Unary.Rl 0xAA 0x55 (CarryResult true false false true))
+case-e : CaseHolds (modifies Unary.Rl 0xAA 0x55 0x90)
 unfolding opened
 case-e c = refl
 
-case-f : CaseHolds (modifies Unary.Sra 0x9A 0xCD (CarryResult false false true false))
+case-f : CaseHolds (modifies Unary.Sra 0x9A 0xCD 0x20)
 unfolding opened
 case-f c = refl
 

@@ -14,6 +14,7 @@ use Rattle.base.specs.ChoiceLaws.{pick-has}
 use Rattle.base.specs.Outcome.{Outcome}
 use Rattle.base.specs.Outcome.Outcome.{value, refused}
 use Rattle.base.specs.Lengths.{isImageLength, recordLength}
+use Rattle.isa.specs.declared.FlagSet.{FlagSet}
 use Rattle.isa.specs.declared.Instruction.{Instruction}
 use Rattle.isa.specs.Map.{cyclesOf}
 use Rattle.decode.specs.Decode.{decodeAt}
@@ -28,7 +29,7 @@ use Rattle.semantics.specs.Run.{ran, recordAt, runFrom, runOf}
 use Rattle.semantics.specs.Refusals.{step-stops}
 
 -- the cycles of what was decoded, by its first byte; what does not decode costs nothing
-unfoldable pub decodedCost : Outcome (Instruction × ℕ) → ℕ → ℕ
+unfoldable pub decodedCost : Outcome (Instruction × ℕ × FlagSet) → ℕ → ℕ
 decodedCost (value d) first = cyclesOf first
 decodedCost (refused n) first = 0
 
@@ -97,7 +98,7 @@ module _ (s : State) (small : s .cycles < 4294967296) where
       (λ _. record { completed = λ _. refl; refused = λ h. absurd (h refl) })
       (λ h. refuse-accounts (e .next .stop) cost (eqb-false (e .next .stop) 0 h))
 
-  decode-accounts : (o : Outcome (Instruction × ℕ)) (image regs rec : List ℕ)
+  decode-accounts : (o : Outcome (Instruction × ℕ × FlagSet)) (image regs rec : List ℕ)
       → ActAccounts (decodedCost o (getD image (s .pc .0) 0)) (afterDecode o image s regs rec)
   unfolding decodedCost afterDecode
   decode-accounts (value d) image regs rec = finish-accounts _ true _

@@ -7,12 +7,12 @@ ghost use Rattle.base.specs.Choice.{pick};
 ghost use Rattle.semantics.specs.Operands.{placeOf, fetchPlace, fetchOf, withFlags, wordAt, wordMapped};
 ghost use Rattle.semantics.specs.Execute.{goesOn};
 use action::Operand;
-use alu::FlagUpdate;
 use base::FLAGS_INDEX;
 use base::RegAddr;
 use base::RomAddr;
 use chip::Inputs;
 use chip::Registers;
+use isa::FlagSet;
 use semantics::Fetched;
 use semantics::Mode;
 use semantics::Next;
@@ -63,11 +63,14 @@ pub fn fetch(regs: &Registers, rec: &Inputs, o: Operand) -> Fetched
     }
 }
 
-// The flags that an instruction names are set over FLAGS.
-pub fn with_flags(regs: &mut Registers, named: FlagUpdate)
-    ensures { λ _. ⌜ now (regs .exit) ≡ withFlags (now (regs .entry)) named ⌝ }
+// The flags that an instruction names are set over FLAGS, as they are in x. Where none is named nothing is stored, which is faster.
+pub fn with_flags(regs: &mut Registers, names: FlagSet, x: u8)
+    ensures { λ _. ⌜ now (regs .exit) ≡ withFlags (now (regs .entry)) names x ⌝ }
 {
-    let f = alu::update(regs[FLAGS_INDEX], named);
+    if names.0 == 0 {
+        return;
+    }
+    let f = alu::update(regs[FLAGS_INDEX], names, x);
     regs[FLAGS_INDEX] = f;
 }
 

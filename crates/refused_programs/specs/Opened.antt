@@ -1,8 +1,6 @@
 -- One name that opens every definition which the programs compute through.
 -- Assumes nothing.
 use Prim.Native.Nat.{ℕ}
-use Rattle.semantics.specs.Execute.{binaryOf, modifyOf, loadInto, pushOperand, jumpOf, returnOf, popOperand, codeAddress, loadCodeOf, interruptReturnOf, jumpPairOf}
-use Rattle.semantics.specs.Step.{enterOf}
 use Rattle.semantics.specs.Reset.{resetState}
 use Rattle.chip.specs.Reset.{resetRegisters}
 use Rattle.safety.specs.Statement.{eventOf, monitorStep}
@@ -14,10 +12,6 @@ unfoldable programsOpened : ℕ
 unfolding imageOf stopping straying unnamed pointing pushing returning looping charging popping fetching resuming serving crossing jumping leaving
 programsOpened = 0
 
-unfoldable actionsOpened : ℕ
-unfolding binaryOf modifyOf loadInto pushOperand jumpOf returnOf popOperand codeAddress loadCodeOf interruptReturnOf jumpPairOf
-actionsOpened = 0
-
 unfoldable pub opened : ℕ
-unfolding casesOpened programsOpened actionsOpened eventOf monitorStep enterOf resetState resetRegisters
+unfolding casesOpened programsOpened eventOf monitorStep resetState resetRegisters
 opened = 0

@@ -13,7 +13,7 @@ use borrow.Author.Tests.{lt-ltb, le-leb, ltb-true}
 use Rattle.base.specs.Choice.{pick}
 use Rattle.base.specs.Outcome.{Outcome, andThen}
 use Rattle.base.specs.Outcome.Outcome.{value, refused}
-use Rattle.isa.specs.Map.{Cell, cellAt, cellOf, cellLength, aluRow, unaryRow, columnF}
+use Rattle.isa.specs.Map.{Cell, cellAt, cellOf, cellLength, cellNames, aluRow, unaryRow, columnF}
 use Rattle.isa.specs.Map.Cell.{unary, unaryAt, pop, popAt, push, pushAt, jumpAt, callAt, aluWork, aluWorkAt, aluReg, aluRegAt, aluImm, ldcDec, ldcInc, ldcLoad, ldcStore}
 use Rattle.isa.specs.Map.Cell.{loadReg, loadRegAt, loadImm, loadAtImm, loadAtReg, call, loadIndexed, storeIndexed, ldcLoadLong, ldcStoreLong}
 use Rattle.isa.specs.Map.Cell.{loadWorkAt, loadAtWork, ldcLoadShort, ldcStoreShort, loadWorkReg, loadRegWork, jumpRel, loadWorkImm, jump, incWork, implied}
@@ -24,7 +24,8 @@ use Rattle.isa.specs.declared.UnaryRow.{UnaryRow}
 use Rattle.isa.specs.declared.Implied.{Implied}
 use Rattle.isa.specs.declared.Instruction.{Instruction}
 use Rattle.columns.specs.Form.{formOf}
-use Rattle.decode.specs.Decode.{decodeAt}
+use Rattle.decode.specs.Decode.{decodeAt, withoutFlags}
+use Rattle.decode.specs.Names.{without-naming}
 use Rattle.coded.specs.Operands.{nibbles}
 use Rattle.instruction_bytes.specs.Bytes.{aluCode, unaryCode, impliedCode, inRow, bytesOf}
 
@@ -76,7 +77,7 @@ joined x = omega arith
 
 -- the first byte at column l, row h, and enough bytes behind it: the form of that cell
 decode-first : (before : List ℕ) (h l : ℕ) (c : Cell) (rest : List ℕ) → l < 16 → cellAt l h ≡ c → cellLength c ≤ suc (length rest)
-    → decodeAt (before ++ ((h * 16 + l) ∷ rest)) (length before) ≡ formOf c h (getD rest 0 0) (getD rest 1 0) (getD rest 2 0)
+    → withoutFlags (decodeAt (before ++ ((h * 16 + l) ∷ rest)) (length before)) ≡ formOf c h (getD rest 0 0) (getD rest 1 0) (getD rest 2 0)
 unfolding decodeAt
 decode-first before h l c rest p e q =
     let s : List ℕ = before ++ ((h * 16 + l) ∷ rest) in
@@ -96,10 +97,11 @@ decode-first before h l c rest p e q =
       getD-append-add before ((h * 16 + l) ∷ rest) 2 0,
       getD-append-add before ((h * 16 + l) ∷ rest) 3 0,
     )
+    (without-naming (cellNames c) _)
 
 -- the bytes, if there are any, decode to i between these lists
 abbrev Decodes : List ℕ → List ℕ → Instruction → Outcome (List ℕ) → Type 0
-Decodes before behind i (value bs) = decodeAt (before ++ (bs ++ behind)) (length before) ≡ value (i, length bs)
+Decodes before behind i (value bs) = withoutFlags (decodeAt (before ++ (bs ++ behind)) (length before)) ≡ value (i, length bs)
 Decodes before behind i (refused k) = Unit {0}
 
 module _ (before behind : List ℕ) where
@@ -222,5 +224,5 @@ module _ (before behind : List ℕ) where
       decode-first before (impliedCode p) 15 (implied p) behind (omega arith) (implied-row p) (omega arith)
 
   pub encoded-decodes : (i : Instruction) (bs : List ℕ) → bytesOf i ≡ value bs
-      → decodeAt (before ++ (bs ++ behind)) (length before) ≡ value (i, length bs)
+      → withoutFlags (decodeAt (before ++ (bs ++ behind)) (length before)) ≡ value (i, length bs)
   encoded-decodes i bs e = rw e at (each i)

@@ -13,6 +13,7 @@ use borrow.Author.Tests.{ltb-false}
 use Rattle.base.specs.Choice.{pick}
 use Rattle.base.specs.Outcome.{Outcome, andThen, onOutcome}
 use Rattle.base.specs.Outcome.Outcome.{value, refused}
+use Rattle.isa.specs.declared.FlagSet.{FlagSet}
 use Rattle.isa.specs.declared.Instruction.{Instruction}
 use Rattle.decode.specs.Decode.{decodeAt}
 use Rattle.decode.specs.Refusals.{decode-number}
@@ -26,13 +27,13 @@ Refusal l (refused n) after = ((n ≡ 7) ⊎ ((10 ≤ n) × (n ≤ 12))) × (aft
 
 module _ (s : List ℕ) (at : ℕ) (out : List ℕ) where
   -- by what was decoded, and the test of the room
-  abbrev answerBy : Outcome (Instruction × ℕ) → Outcome ℕ
+  abbrev answerBy : Outcome (Instruction × ℕ × FlagSet) → Outcome ℕ
   answerBy o = andThen o (λ p. pick (ltb (length out) (p .1)) (refused 7) (value (p .1)))
 
-  abbrev bufferBy : Outcome (Instruction × ℕ) → List ℕ
+  abbrev bufferBy : Outcome (Instruction × ℕ × FlagSet) → List ℕ
   bufferBy o = onOutcome o (λ p. pick (ltb (length out) (p .1)) out (take (p .1) (drop at s) ++ drop (p .1) out)) (λ k. out)
 
-  refusal : (o : Outcome (Instruction × ℕ)) → decodeAt s at ≡ o → Refusal out (answerBy o) (bufferBy o)
+  refusal : (o : Outcome (Instruction × ℕ × FlagSet)) → decodeAt s at ≡ o → Refusal out (answerBy o) (bufferBy o)
   refusal (value p) e = short (ltb (length out) (p .1))
     where
       short : (t : Bool)
@@ -53,8 +54,8 @@ module _ (s : List ℕ) (at : ℕ) (out : List ℕ) where
 
   -- of bytes
   module _ (byte : (k : ℕ) → getD s k 0 < 256) where
-    keeps : (o : Outcome (Instruction × ℕ)) → decodeAt s at ≡ o → length (bufferBy o) ≡ length out
-    keeps (value p) e = short (round-trip s at byte (p .0) (p .1) e) (ltb (length out) (p .1)) refl
+    keeps : (o : Outcome (Instruction × ℕ × FlagSet)) → decodeAt s at ≡ o → length (bufferBy o) ≡ length out
+    keeps (value p) e = short (round-trip s at byte (p .0) (p .1) (p .2) e) (ltb (length out) (p .1)) refl
       where
         short : RoundTrip s at (p .0) (p .1) → (t : Bool) → ltb (length out) (p .1) ≡ t
             → length (pick t out (take (p .1) (drop at s) ++ drop (p .1) out)) ≡ length out

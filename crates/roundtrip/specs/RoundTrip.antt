@@ -19,9 +19,11 @@ use Rattle.isa.specs.Map.{Cell, cellOf, cellLength}
 use Rattle.isa.specs.Map.Cell.{empty, unary, unaryAt, pop, popAt, push, pushAt, jumpAt, callAt, aluWork, aluWorkAt, aluReg, aluRegAt, aluImm, ldcDec, ldcInc, ldcLoad, ldcStore}
 use Rattle.isa.specs.Map.Cell.{loadReg, loadRegAt, loadImm, loadAtImm, loadAtReg, call, loadIndexed, storeIndexed, ldcLoadLong, ldcStoreLong}
 use Rattle.isa.specs.Map.Cell.{loadWorkAt, loadAtWork, ldcLoadShort, ldcStoreShort, loadWorkReg, loadRegWork, jumpRel, loadWorkImm, jump, incWork, implied}
+use Rattle.isa.specs.declared.FlagSet.{FlagSet}
 use Rattle.isa.specs.declared.Instruction.{Instruction}
-use Rattle.columns.specs.Form.{formOf}
-use Rattle.decode.specs.Decode.{decodeAt}
+use Rattle.columns.specs.Form.{formOf, answerOf}
+use Rattle.decode.specs.Decode.{decodeAt, withoutFlags}
+use Rattle.decode.specs.Names.{without-naming}
 use Rattle.coded.specs.Operands.{evenPair, longOffset, nibbles}
 use Rattle.instruction_bytes.specs.Bytes.{aluCode, unaryCode, impliedCode, ldeBit, bytesOf}
 use Rattle.encode.specs.Encode.{sizeOf, encodeAnswer, encodeInto}
@@ -232,33 +234,33 @@ pub record RoundTrip (s : List ℕ) (at : ℕ) (i : Instruction) (n : ℕ) : Typ
   pub some : 0 < n
   pub most : n ≤ 4
 
-module _ (s : List ℕ) (at₀ : ℕ) (byte : (k : ℕ) → getD s k 0 < 256) (i : Instruction) (n : ℕ) where
+module _ (s : List ℕ) (at₀ : ℕ) (byte : (k : ℕ) → getD s k 0 < 256) (i : Instruction) (n : ℕ) (f : FlagSet) where
   whole : (t u : Bool) → ltb at₀ (length s) ≡ t → leb (cellLength (cellOf (getD s at₀ 0))) (length s - at₀) ≡ u
       → pick t
-      (pick u (formOf (cellOf (getD s at₀ 0)) (getD s at₀ 0 / 16) (getD s (at₀ + 1) 0) (getD s (at₀ + 2) 0) (getD s (at₀ + 3) 0)) (refused 10))
+      (pick u (answerOf (cellOf (getD s at₀ 0)) (getD s at₀ 0 / 16) (getD s (at₀ + 1) 0) (getD s (at₀ + 2) 0) (getD s (at₀ + 3) 0)) (refused 10))
       (refused 10)
-      ≡ value (i, n)
+      ≡ value (i, n, f)
       → RoundTrip s at₀ i n
-  whole true true e u f =
+  whole true true e u q =
       let lt : at₀ < length s = ltb-true _ _ e in
       let row : getD s at₀ 0 / 16 < 16 = omega (arith, byte at₀) in
       let r = core (cellOf (getD s at₀ 0)) (getD s at₀ 0 / 16) (getD s at₀ 0) (getD s (at₀ + 1) 0) (getD s (at₀ + 2) 0) (getD s (at₀ + 3) 0) i n
-      row (byte (at₀ + 1)) (byte (at₀ + 2)) (right-at (getD s at₀ 0) (byte at₀)) f in
+      row (byte (at₀ + 1)) (byte (at₀ + 2)) (right-at (getD s at₀ 0) (byte at₀)) (sym (without-naming _ _) ∙ ap withoutFlags q) in
       let le : n ≤ length s - at₀ = rw (r .same) (leb-true _ _ u) in
       let e1 : suc at₀ ≡ at₀ + 1 = omega arith in
       let e2 : suc (at₀ + 1) ≡ at₀ + 2 = omega arith in
       let e3 : suc (at₀ + 2) ≡ at₀ + 3 = omega arith in
       let k = front n 4 at₀ s (r .most) (omega arith) in
       record { bytes = r .bytes ∙ ap value (rw (e1, e2, e3) at k); within = omega arith; some = r .some; most = r .most }
-  whole true false e u f = absurd (no-value f)
-  whole false u e v f = absurd (no-value f)
+  whole true false e u q = absurd (no-value q)
+  whole false u e v q = absurd (no-value q)
 
-  pub round-trip : decodeAt s at₀ ≡ value (i, n) → RoundTrip s at₀ i n
+  pub round-trip : decodeAt s at₀ ≡ value (i, n, f) → RoundTrip s at₀ i n
   unfolding decodeAt
   round-trip e = whole (ltb at₀ (length s)) (leb (cellLength (cellOf (getD s at₀ 0))) (length s - at₀)) refl refl e
 
   -- so encoding what was decoded answers its length and puts back the bytes read, where the buffer has room for them
-  pub re-encoded : (out : List ℕ) → decodeAt s at₀ ≡ value (i, n)
+  pub re-encoded : (out : List ℕ) → decodeAt s at₀ ≡ value (i, n, f)
       → (encodeAnswer i (length out) ≡ pick (ltb (length out) n) (refused 7) (value n))
       × (encodeInto i out ≡ pick (ltb (length out) n) out (take n (drop at₀ s) ++ drop n out))
   unfolding encodeAnswer encodeInto

@@ -21,7 +21,7 @@ pub fn copy_instruction(s: &[u8], at: usize, out: &mut [u8]) -> Copied
     ensures { λ r. ⌜ now (out .exit) ≡ copyInto (now (s .entry)) at (now (out .entry)) ⌝ }
 {
     match decode::decode(s, at) {
-        Decoded::Found(i, n) => {
+        Decoded::Found(i, n, _) => {
             if out.len() < n as usize {
                 return Copied::Short;
             }

@@ -95,7 +95,7 @@ fn unchanged_by(n: Entry, w: Write, x: RegAddr) -> bool
     }
 }
 
-// The compare of entry t follows from its own CP, or from the same compare over an instruction that changes no flag and cannot write its cell.
+// The compare of entry t follows from its own CP, or from the same compare over an instruction that names no flag and cannot write its cell.
 fn flags_follow(n: Entry, w: Write, f: FlagEffect, t: Entry) -> bool
     ensures { λ r. ⌜ ((C : Certificate) (a b : ℕ) → n ≡ entryOf C a → t ≡ entryOf C b → r ≡ decide (flagsFollow C a w f b)) ⌝ }
 {
@@ -174,9 +174,9 @@ fn claim_survives(cert: &[u8], n: Entry, k: u8, c: Claim) -> bool
     (c.cell.0 == NO_CELL) | follows
 }
 
-// What holds behind CALL, and at the start that it goes to, follows.
-fn call26(cert: &[u8], n: Entry, next: RomAddr, t: RomAddr) -> bool
-    ensures { λ r. ⌜ ((a : ℕ) → n ≡ entryOf (certificateOf (now (cert .entry))) a → r ≡ decide (Rattle.safety.specs.Rules.call26 (certificateOf (now (cert .entry))) a (next .0) (t .0))) ⌝ }
+// What holds behind CALL, and at the start that it goes to, follows; g is its flag effect.
+fn call26(cert: &[u8], n: Entry, g: FlagEffect, next: RomAddr, t: RomAddr) -> bool
+    ensures { λ r. ⌜ ((a : ℕ) → n ≡ entryOf (certificateOf (now (cert .entry))) a → r ≡ decide (Rattle.safety.specs.Rules.call26 (certificateOf (now (cert .entry))) a g (next .0) (t .0))) ⌝ }
 {
     let to = entries::entry_of(entries::entry_part(cert, t));
     let behind = entries::entry_of(entries::entry_part(cert, next));
@@ -188,7 +188,7 @@ fn call26(cert: &[u8], n: Entry, next: RomAddr, t: RomAddr) -> bool
     let first = claim_survives(cert, n, to.routine, behind.first);
     let second = claim_survives(cert, n, to.routine, behind.second);
     let claims = claims_follow(n, e, Write::Nothing, to);
-    let compare = compare_follows(n, Write::Nothing, FlagEffect::Kept, to);
+    let compare = compare_follows(n, Write::Nothing, g, to);
     first & (second & ((behind.compare.cell.0 == NO_CELL) & (claims & compare)))
 }
 
@@ -204,12 +204,12 @@ fn edges26(cert: &[u8], n: Entry, s: Summary, f: Flow, next: RomAddr) -> bool
     }
 }
 
-fn calls26(cert: &[u8], n: Entry, f: Flow, next: RomAddr) -> bool
-    ensures { λ r. ⌜ ((a : ℕ) → n ≡ entryOf (certificateOf (now (cert .entry))) a → r ≡ decide (calls f (Rattle.safety.specs.Rules.call26 (certificateOf (now (cert .entry))) a (next .0)))) ⌝ }
+fn calls26(cert: &[u8], n: Entry, f: Flow, g: FlagEffect, next: RomAddr) -> bool
+    ensures { λ r. ⌜ ((a : ℕ) → n ≡ entryOf (certificateOf (now (cert .entry))) a → r ≡ decide (calls f (Rattle.safety.specs.Rules.call26 (certificateOf (now (cert .entry))) a g (next .0)))) ⌝ }
 {
     match f {
         Flow::Step(_, _) => true,
-        Flow::Call(to) => call26(cert, n, next, to),
+        Flow::Call(to) => call26(cert, n, g, next, to),
         Flow::Return => true,
         Flow::InterruptReturn => true,
         Flow::Forbidden => true,
@@ -222,5 +222,6 @@ pub fn rule26(cert: &[u8], a: RomAddr, s: Summary, next: RomAddr) -> bool
 {
     let n = entries::entry_of(entries::entry_part(cert, a));
     let flow = s.flow;
-    edges26(cert, n, s, flow, next) & calls26(cert, n, flow, next)
+    let flags = s.flags;
+    edges26(cert, n, s, flow, next) & calls26(cert, n, flow, flags, next)
 }

@@ -12,6 +12,7 @@ use Rattle.base.specs.Addresses.{flagsCell, spCell, symCell}
 use Rattle.base.specs.Choice.{pick}
 use Rattle.base.specs.Formula.{Holds, eq, _&_, same?, le?, of-true, eqb-yes}
 use Rattle.base.specs.Lengths.{romLength}
+use Rattle.isa.specs.declared.FlagSet.{FlagSet}
 use Rattle.chip.specs.Registers.{storeOf}
 use Rattle.chip.specs.Laws.{mapped-ram, load-ram, store-other, store-ram}
 use Rattle.chip.specs.InterruptLaws.{enabled-same}
@@ -20,7 +21,7 @@ use Rattle.action.specs.declared.Action.{Action}
 use Rattle.semantics.specs.Operands.{lowered, raised, storeTop, pushOf, pushAddress, wordAt, wordMapped}
 use Rattle.semantics.specs.Execute.{executeOf, callOf, returnOf}
 use Rattle.certificate.specs.declared.Write.{Write}
-use Rattle.certificate.specs.declared.FlagEffect.the-variants.{Kept}
+use Rattle.certificate.specs.declared.FlagEffect.{FlagEffect}
 use Rattle.certificate.specs.declared.Flow.{Flow}
 use Rattle.certificate.specs.declared.Flow.the-variants.{Call, Return}
 use Rattle.certificate.specs.declared.Summary.{Summary}
@@ -28,7 +29,8 @@ use Rattle.certificate.specs.Layout.{Certificate}
 use Rattle.safety.specs.Rules.{noCell, ramEnd, unloaded, plainEdge, Edge, worst, boundAt, flowAllowed, calls, ends, successor, callTarget}
 use Rattle.safety.specs.Rules.{callDepth, claimsFollow, survives, call26, sameFirst, boundAfterCall, paid, rule21, rule22, rule25, rule26, rule27}
 use Rattle.safety.specs.Statement.{Opener, byReset, byCall, byInterrupt, Frame, spends, outward}
-use Rattle.safety.specs.Invariant.{at, Registers, Awake, Claims, firstNow, boundNow, reserve, CallLink, Link, frameSize, Chain, Invariant}
+use Rattle.safety.specs.Coherent.{nothing-compares}
+use Rattle.safety.specs.Invariant.{at, Registers, Awake, Claims, firstNow, boundNow, reserve, CallLink, Link, frameSize, Chain, Invariant, FlagsAfter}
 use Rattle.safety.specs.Facts.{Global, EntryFacts}
 use Rattle.safety.specs.Memory.{store-registers, sp-registers, sp-other, sp-same}
 use Rattle.safety.specs.Chain.{Keeps, chain-room, chain-top, chain-cost, chain-keep}
@@ -174,31 +176,31 @@ calledFrame C t next = record { routine = C .routine t; returnTo = next; cycles 
 
 module _ (C : Certificate) (image : List ℕ) where
   -- a return with action act from f, which o opened: f closes within its bound, and the next frame outward goes on at f's return address
-  pub record ReturnRight (act : Action) (o : Opener) (ld : Bool) (r rec : List ℕ) (next : RomAddr) (c : ℕ) (f : Frame) (fs : List Frame) : Type 0 where
-    pub goes : executeOf act image r rec next .next .stop ≡ 0
-    pub mode : Awake (executeOf act image r rec next .next .mode)
-    pub counter : executeOf act image r rec next .next .pc .0 ≡ f .returnTo
+  pub record ReturnRight (act : Action) (ns : FlagSet) (o : Opener) (ld : Bool) (r rec : List ℕ) (next : RomAddr) (c : ℕ) (f : Frame) (fs : List Frame) : Type 0 where
+    pub goes : executeOf act ns image r rec next .next .stop ≡ 0
+    pub mode : Awake (executeOf act ns image r rec next .next .mode)
+    pub counter : executeOf act ns image r rec next .next .pc .0 ≡ f .returnTo
     pub opener : f .opener ≡ o
     pub own : f .cycles + c ≤ C .bound (f .routine)
     pub waiting : Frame
     pub rest : List Frame
     pub shape : outward c fs (f .opener) ≡ waiting ∷ rest
-    pub invariant : Invariant C ld (executeOf act image r rec next .regs) (f .returnTo) waiting rest
+    pub invariant : Invariant C ld (executeOf act ns image r rec next .regs) (f .returnTo) waiting rest
 
 module _ (C : Certificate) (image : List ℕ) (global : Global C image) (more : CertificateFacts C) where
-  -- what the rules say of a CALL at a of t
-  record CallRules (a t next c : ℕ) : Type 0 where
+  -- what the rules say of a CALL at a of t, with the flag effect g
+  record CallRules (g : FlagEffect) (a t next c : ℕ) : Type 0 where
     pub target : Holds (successor C (C .routine a) next) × Holds (callTarget C (C .routine a) t)
     pub depth : Holds (callDepth C (C .depth a) (C .need (C .routine a)) next t)
-    pub claims : Holds (call26 C a next t)
+    pub claims : Holds (call26 C a g next t)
     pub cost : Holds (paid C a (plainEdge next) c (boundAfterCall C a next t))
 
-  call-rules : (a : ℕ) (S : Summary) (next c : ℕ) (to : RomAddr) → S .flow ≡ Call to → RulesOf C a S next c → CallRules a (to .0) next c
+  call-rules : (a : ℕ) (S : Summary) (next c : ℕ) (to : RomAddr) → S .flow ≡ Call to → RulesOf C a S next c → CallRules (S .flags) a (to .0) next c
   unfolding rule21 rule25 rule26 rule27
   call-rules a S next c to e rules = record {
     target = subst (λ (k : Flow). Holds (calls k (λ t. successor C (C .routine a) next & callTarget C (C .routine a) t))) e (rules .r21 (rules .r22) .1);
     depth = subst (λ (k : Flow). Holds (calls k (callDepth C (C .depth a) (C .need (C .routine a)) next))) e (rules .r25 .1 .1 .1 .0);
-    claims = subst (λ (k : Flow). Holds (calls k (call26 C a next))) e (rules .r26 .1);
+    claims = subst (λ (k : Flow). Holds (calls k (call26 C a (S .flags) next))) e (rules .r26 .1);
     cost = subst (λ (k : Flow). Holds (calls k (λ t. paid C a (plainEdge next) c (boundAfterCall C a next t)))) e (rules .r27 .1 .0);
   }
 
@@ -238,10 +240,10 @@ module _ (C : Certificate) (image : List ℕ) (global : Global C image) (more : 
       (λ (q : C .routine t ≢ 2). omega arith) (same? (C .routine t) 2)
 
   -- what the caller relies on when the callee returns
-  call-link : (r r′ : List ℕ) (a t next c : ℕ) (f : Frame) (fs : List Frame) → Invariant C true r a f fs → CallRules a t next c
+  call-link : (g : FlagEffect) (r r′ : List ℕ) (a t next c : ℕ) (f : Frame) (fs : List Frame) → Invariant C true r a f fs → CallRules g a t next c
       → Called r r′ next → C .depth t ≡ 0 → CallLink C r′ (at r′ spCell + C .depth t) (calledFrame C t next) (spends c f)
   unfolding successor callTarget callDepth call26
-  call-link r r′ a t next c f fs v m ca dt =
+  call-link g r r′ a t next c f fs v m ca dt =
       let e = entry-of C image global true r a f fs v in
       let hm = v .home in
       let u = v .used in
@@ -301,10 +303,10 @@ module _ (C : Certificate) (image : List ℕ) (global : Global C image) (more : 
       })
 
   -- the invariant at the callee's start, on the registers that CALL leaves
-  called-inv : (r r′ : List ℕ) (a t next c : ℕ) (f : Frame) (fs : List Frame) → Invariant C true r a f fs → CallRules a t next c
-      → Called r r′ next → Invariant C true r′ t (calledFrame C t next) (spends c f ∷ outward c fs (f .opener))
+  called-inv : (g : FlagEffect) (r r′ : List ℕ) (a t next c : ℕ) (f : Frame) (fs : List Frame) → Invariant C true r a f fs → CallRules g a t next c
+      → Called r r′ next → FlagsAfter g r r′ → Invariant C true r′ t (calledFrame C t next) (spends c f ∷ outward c fs (f .opener))
   unfolding successor callTarget callDepth call26
-  called-inv r r′ a t next c f fs v m ca =
+  called-inv g r r′ a t next c f fs v m ca after =
       let e = entry-of C image global true r a f fs v in
       let hm = v .home in
       let u = v .used in
@@ -338,8 +340,8 @@ module _ (C : Certificate) (image : List ℕ) (global : Global C image) (more : 
         registers = pu .registers;
         claims = ct;
         compare =
-            compare-follows C more a e r (v .registers) (v .claims) (v .compare) 8 t Write.Nothing tt r′ (pu .registers) (pu .cells) Kept et tt
-            (ca .flags) (m .claims .1 .1 .1 .1);
+            compare-follows C more a e r (v .registers) (v .claims) (v .compare) 8 t Write.Nothing tt r′ (pu .registers) (pu .cells) g et
+            (nothing-compares g) after (m .claims .1 .1 .1 .1);
         enabled = λ h. let z = v .enabled (sym (enabled-same r r′ (ca .sym)) ∙ h) in (sd ∙ z .0, z .1);
         cost = λ n. omega arith;
         stack = record {
@@ -347,24 +349,25 @@ module _ (C : Certificate) (image : List ℕ) (global : Global C image) (more : 
           room = omega arith;
           chain = (
             omega arith,
-            call-link r r′ a t next c f fs v m ca dt,
+            call-link g r r′ a t next c f fs v m ca dt,
             rw (let z : at r′ spCell + C .depth t + 2 + C .depth next ≡ at r spCell + C .depth a = omega arith in z) ch,
           );
         };
       }
 
-  pub record CallRight (ld : Bool) (r rec : List ℕ) (to next : RomAddr) (c : ℕ) (f : Frame) (fs : List Frame) : Type 0 where
-    pub goes : executeOf (Action.Call to) image r rec next .next .stop ≡ 0
-    pub mode : Awake (executeOf (Action.Call to) image r rec next .next .mode)
-    pub counter : executeOf (Action.Call to) image r rec next .next .pc .0 ≡ to .0
+  pub record CallRight (ns : FlagSet) (ld : Bool) (r rec : List ℕ) (to next : RomAddr) (c : ℕ) (f : Frame) (fs : List Frame) : Type 0 where
+    pub goes : executeOf (Action.Call to) ns image r rec next .next .stop ≡ 0
+    pub mode : Awake (executeOf (Action.Call to) ns image r rec next .next .mode)
+    pub counter : executeOf (Action.Call to) ns image r rec next .next .pc .0 ≡ to .0
     pub invariant :
-        Invariant C ld (executeOf (Action.Call to) image r rec next .regs) (to .0) (calledFrame C (to .0) (next .0)) (spends c f ∷ outward c fs (f .opener))
+        Invariant C ld (executeOf (Action.Call to) ns image r rec next .regs) (to .0) (calledFrame C (to .0) (next .0)) (spends c f ∷ outward c fs (f .opener))
 
-  pub inv-call : (ld : Bool) (r rec : List ℕ) (a : ℕ) (f : Frame) (fs : List Frame) (S : Summary) (next to : RomAddr) (c : ℕ)
-      → S .flow ≡ Call to → RulesOf C a S (next .0) c → Invariant C ld r a f fs → CallRight ld r rec to next c f fs
+  pub inv-call : (ns : FlagSet) (ld : Bool) (r rec : List ℕ) (a : ℕ) (f : Frame) (fs : List Frame) (S : Summary) (next to : RomAddr) (c : ℕ)
+      → S .flow ≡ Call to → ((r′ : List ℕ) → at r′ flagsCell ≡ at r flagsCell → FlagsAfter (S .flags) r r′) → RulesOf C a S (next .0) c
+      → Invariant C ld r a f fs → CallRight ns ld r rec to next c f fs
   unfolding executeOf callOf successor callDepth
-  inv-call false r rec a f fs S next to c flow rules v = absurd (call-rules a S (next .0) c to flow rules .depth .0 (v .stack .unloaded))
-  inv-call true r rec a f fs S next to c flow rules v =
+  inv-call ns false r rec a f fs S next to c flow after rules v = absurd (call-rules a S (next .0) c to flow rules .depth .0 (v .stack .unloaded))
+  inv-call ns true r rec a f fs S next to c flow after rules v =
       let m = call-rules a S (next .0) c to flow rules in
       let b = before-of C true r a f fs v in
       let dk = v .stack .loaded in
@@ -373,13 +376,13 @@ module _ (C : Certificate) (image : List ℕ) (global : Global C image) (more : 
       let rm = m .depth .1 .1 in
       let ht = global .stackTop in
       let p = push-address r next (v .registers) (m .target .0 .0) (omega arith) (omega arith) in
+      let ca = called r (pushAddress r next .regs) (next .0) (p .1) (omega arith) (omega arith) in
       record {
         goes = rw (p .0) refl;
         mode = tt;
         counter = refl;
         invariant =
-            called-inv r (pushAddress r next .regs) a (to .0) (next .0) c f fs v m
-            (called r (pushAddress r next .regs) (next .0) (p .1) (omega arith) (omega arith));
+            called-inv (S .flags) r (pushAddress r next .regs) a (to .0) (next .0) c f fs v m ca (after (pushAddress r next .regs) (ca .flags));
       }
 
   -- Returns --
@@ -395,12 +398,12 @@ module _ (C : Certificate) (image : List ℕ) (global : Global C image) (more : 
       (subst (λ (k : Edge). Holds (paid C a k c (λ v. 0))) (plain-taken r 0) m) (omega arith) in
       omega arith
 
-  return-called : (r rec : List ℕ) (a c : ℕ) (next : RomAddr) (f g : Frame) (rest : List Frame) → Invariant C true r a f (g ∷ rest)
+  return-called : (ns : FlagSet) (r rec : List ℕ) (a c : ℕ) (next : RomAddr) (f g : Frame) (rest : List Frame) → Invariant C true r a f (g ∷ rest)
       → 3 ≤ C .routine a → C .depth a ≡ 0 → Holds (paid C a (plainEdge 0) c (λ v. 0)) → f .opener ≡ byCall
       → CallLink C r (at r spCell + C .depth a) f g → Chain C r (at r spCell + C .depth a + 2 + C .depth (f .returnTo)) g rest
-      → ReturnRight C image Action.Return byCall true r rec next c f (g ∷ rest)
+      → ReturnRight C image Action.Return ns byCall true r rec next c f (g ∷ rest)
   unfolding executeOf returnOf raised
-  return-called r rec a c next f g rest v h3 hd m q l ch =
+  return-called ns r rec a c next f g rest v h3 hd m q l ch =
       let e = entry-of C image global true r a f (g ∷ rest) v in
       let s = at r spCell in
       let ht = global .stackTop in
@@ -454,17 +457,17 @@ module _ (C : Certificate) (image : List ℕ) (global : Global C image) (more : 
       }
 
   -- RET, from the rules that it must meet
-  return-now : (ld : Bool) (r rec : List ℕ) (a c : ℕ) (next : RomAddr) (f : Frame) (fs : List Frame) → Invariant C ld r a f fs
-      → 3 ≤ C .routine a → C .depth a ≡ 0 → Holds (paid C a (plainEdge 0) c (λ v. 0)) → ReturnRight C image Action.Return byCall ld r rec next c f fs
-  return-now false r rec a c next f fs v h3 hd m = let d = v .stack .unloaded in absurd (omega arith)
-  return-now true r rec a c next f [] v h3 hd m = let z = v .stack .chain .1 in let h = v .home in absurd (omega arith)
-  return-now true r rec a c next f (g ∷ rest) v h3 hd m = go (f .opener) refl (v .stack .chain .1) (v .stack .chain .2)
+  return-now : (ns : FlagSet) (ld : Bool) (r rec : List ℕ) (a c : ℕ) (next : RomAddr) (f : Frame) (fs : List Frame) → Invariant C ld r a f fs
+      → 3 ≤ C .routine a → C .depth a ≡ 0 → Holds (paid C a (plainEdge 0) c (λ v. 0)) → ReturnRight C image Action.Return ns byCall ld r rec next c f fs
+  return-now ns false r rec a c next f fs v h3 hd m = let d = v .stack .unloaded in absurd (omega arith)
+  return-now ns true r rec a c next f [] v h3 hd m = let z = v .stack .chain .1 in let h = v .home in absurd (omega arith)
+  return-now ns true r rec a c next f (g ∷ rest) v h3 hd m = go (f .opener) refl (v .stack .chain .1) (v .stack .chain .2)
     where
       go : (o : Opener) → f .opener ≡ o → Link C o r (at r spCell + C .depth a) f g
           → Chain C r (at r spCell + C .depth a + frameSize o + C .depth (f .returnTo)) g rest
-          → ReturnRight C image Action.Return byCall true r rec next c f (g ∷ rest)
+          → ReturnRight C image Action.Return ns byCall true r rec next c f (g ∷ rest)
       go byReset q l ch = absurd l
-      go byCall q l ch = return-called r rec a c next f g rest v h3 hd m q l ch
+      go byCall q l ch = return-called ns r rec a c next f g rest v h3 hd m q l ch
       go byInterrupt q l ch = let z = l .service in let h = v .home in absurd (omega arith)
 
   -- what rules 25 and 27 say of a return
@@ -476,9 +479,9 @@ module _ (C : Certificate) (image : List ℕ) (global : Global C image) (more : 
     subst (λ (k : Flow). Holds (ends k (paid C a (plainEdge 0) c (λ v. 0)))) e (rules .r27 .1 .1 .0),
   )
 
-  pub inv-return : (ld : Bool) (r rec : List ℕ) (a : ℕ) (f : Frame) (fs : List Frame) (S : Summary) (next : RomAddr) (c : ℕ) → S .flow ≡ Return
-      → RulesOf C a S (next .0) c → Invariant C ld r a f fs → ReturnRight C image Action.Return byCall ld r rec next c f fs
+  pub inv-return : (ns : FlagSet) (ld : Bool) (r rec : List ℕ) (a : ℕ) (f : Frame) (fs : List Frame) (S : Summary) (next : RomAddr) (c : ℕ) → S .flow ≡ Return
+      → RulesOf C a S (next .0) c → Invariant C ld r a f fs → ReturnRight C image Action.Return ns byCall ld r rec next c f fs
   unfolding rule22
-  inv-return ld r rec a f fs S next c flow rules v =
+  inv-return ns ld r rec a f fs S next c flow rules v =
       let z = end-rules a S (next .0) c Return flow rules in
-      return-now ld r rec a c next f fs v (subst (λ (k : Flow). Holds (flowAllowed (C .routine a) k)) flow (rules .r22 .1) .0) (z .0) (z .1)
+      return-now ns ld r rec a c next f fs v (subst (λ (k : Flow). Holds (flowAllowed (C .routine a) k)) flow (rules .r22 .1) .0) (z .0) (z .1)

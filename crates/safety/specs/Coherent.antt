@@ -6,11 +6,13 @@ use lib.Dec.{T, eqb}
 use Rattle.base.specs.declared.RegAddr.{RegAddr}
 use Rattle.base.specs.Addresses.{spCell}
 use Rattle.base.specs.Choice.{pick}
+use Rattle.base.specs.ChoiceLaws.{pick-has}
 use Rattle.base.specs.Formula.{Holds}
 use Rattle.isa.specs.declared.Alu.{Alu}
 use Rattle.isa.specs.declared.Alu.the-variants.{Add, Adc, Sub, Sbc, Or, And, Tcm, Tm, Cp, Xor}
 use Rattle.isa.specs.declared.Unary.{Unary}
 use Rattle.isa.specs.declared.Unary.the-variants.{Dec, Rlc, Inc, Com, Rl, Clr, Rrc, Sra, Rr}
+use Rattle.isa.specs.declared.FlagSet.{FlagSet}
 use Rattle.chip.specs.Registers.{mappedOf}
 use Rattle.alu.specs.Operations.{stores}
 use Rattle.action.specs.declared.Operand.{Operand}
@@ -23,7 +25,7 @@ use Rattle.certificate.specs.declared.FlagEffect.{FlagEffect}
 use Rattle.certificate.specs.declared.FlagEffect.the-variants.{Kept, Changed, Compared}
 use Rattle.certificate.specs.declared.StackEffect.the-variants.{Same, Push, Pop, Load}
 use Rattle.certificate.specs.declared.Summary.{Summary}
-use Rattle.certificate.specs.Summaries.{reading, moving, into, binaryValue, binaryFlags, binarySummary, modifyValue, modifyFlags, loadSummary, summaryOf}
+use Rattle.certificate.specs.Summaries.{reading, moving, into, binaryValue, binaryFlags, binarySummary, modifyValue, flagEffect, loadSummary, summaryOf}
 use Rattle.safety.specs.Rules.{noCell, directRead}
 use Rattle.safety.specs.Edge.{Copies, Compares}
 
@@ -86,63 +88,58 @@ modify-reads Rrc a u = tt
 modify-reads Sra a u = tt
 modify-reads Rr a u = tt
 
-modify-compares : (op : Unary) (w : Write) → Compares (modifyFlags op) w
-modify-compares Dec w = tt
-modify-compares Rlc w = tt
-modify-compares Inc w = tt
-modify-compares Com w = tt
-modify-compares Rl w = tt
-modify-compares Clr w = tt
-modify-compares Rrc w = tt
-modify-compares Sra w = tt
-modify-compares Rr w = tt
+-- flags that have changed are no compare
+changed-compares : (ns : FlagSet) (w : Write) → Compares (flagEffect ns Changed) w
+changed-compares ns w = pick-has (λ (f : FlagEffect). Compares f w) (eqb (ns .0) 0) Kept Changed (λ _. tt) (λ _. tt)
 
-nothing-compares : (f : FlagEffect) → Compares f Write.Nothing
+pub nothing-compares : (f : FlagEffect) → Compares f Write.Nothing
 nothing-compares Kept = tt
 nothing-compares Changed = tt
 nothing-compares (Compared x k) = refl
 
-binary-coherent : (b : Bool) (op : Alu) (d s : Operand) → Coherent (into d (binarySummary b op d s))
-binary-coherent true op (Register a) s = record { reads = binary-reads op a s (reading s); compares = tt }
-binary-coherent true op (Indirect p x) s = record { reads = tt; compares = tt }
-binary-coherent false op (Register a) s = record { reads = tt; compares = nothing-compares (binaryFlags op (Register a) s) }
-binary-coherent false op (Indirect p x) s = record { reads = tt; compares = nothing-compares (binaryFlags op (Indirect p x) s) }
-binary-coherent b op (Immediate n) s = record { reads = tt; compares = tt }
+binary-coherent : (b : Bool) (op : Alu) (d s : Operand) (ns : FlagSet) → Coherent (into d (binarySummary b op d s ns))
+binary-coherent true op (Register a) s ns = record { reads = binary-reads op a s (reading s); compares = changed-compares ns _ }
+binary-coherent true op (Indirect p x) s ns = record { reads = tt; compares = changed-compares ns _ }
+binary-coherent false op (Register a) s ns = record { reads = tt; compares = nothing-compares (flagEffect ns (binaryFlags op (Register a) s)) }
+binary-coherent false op (Indirect p x) s ns = record { reads = tt; compares = nothing-compares (flagEffect ns (binaryFlags op (Indirect p x) s)) }
+binary-coherent b op (Immediate n) s ns = record { reads = tt; compares = tt }
 
-load-coherent : (d s : Operand) → Coherent (loadSummary d s)
-load-coherent (Register a) (Register b) = record { reads = refl; compares = tt }
-load-coherent (Register a) (Indirect p x) = record { reads = tt; compares = tt }
-load-coherent (Register a) (Immediate n) = go (eqb (a .0) spCell)
+load-coherent : (d s : Operand) (ns : FlagSet) → Coherent (loadSummary d s (flagEffect ns Changed))
+load-coherent (Register a) (Register b) ns = record { reads = refl; compares = changed-compares ns _ }
+load-coherent (Register a) (Indirect p x) ns = record { reads = tt; compares = changed-compares ns _ }
+load-coherent (Register a) (Immediate n) ns = go (eqb (a .0) spCell)
   where
     go : (b : Bool)
-        → Coherent (pick b (moving Write.Nothing Access.Nothing Access.Nothing Kept (Load n)) (moving (Write.Register a (Number n)) Access.Nothing Access.Nothing Kept Same))
-    go true = record { reads = tt; compares = tt }
-    go false = record { reads = tt; compares = tt }
-load-coherent (Indirect p x) s = record { reads = tt; compares = tt }
-load-coherent (Immediate n) s = record { reads = tt; compares = tt }
+        → Coherent
+        (pick b (moving Write.Nothing Access.Nothing Access.Nothing (flagEffect ns Changed) (Load n))
+        (moving (Write.Register a (Number n)) Access.Nothing Access.Nothing (flagEffect ns Changed) Same))
+    go true = record { reads = tt; compares = changed-compares ns _ }
+    go false = record { reads = tt; compares = changed-compares ns _ }
+load-coherent (Indirect p x) s ns = record { reads = tt; compares = changed-compares ns _ }
+load-coherent (Immediate n) s ns = record { reads = tt; compares = tt }
 
-pub coherent : (act : Action) → Coherent (summaryOf act)
+pub coherent : (act : Action) (ns : FlagSet) → Coherent (summaryOf act ns)
 unfolding summaryOf
-coherent (Action.Binary op d s) = binary-coherent (stores op) op d s
-coherent (Action.Modify op (Register a)) = record { reads = modify-reads op a Access.Nothing; compares = modify-compares op (Write.Register a (modifyValue op)) }
-coherent (Action.Modify op (Indirect p x)) = record { reads = tt; compares = modify-compares op (Write.Pointed p x) }
-coherent (Action.Modify op (Immediate n)) = record { reads = tt; compares = tt }
-coherent (Action.Load d s) = load-coherent d s
-coherent (Action.Push s) = record { reads = tt; compares = tt }
-coherent (Action.Pop (Register a)) = record { reads = tt; compares = tt }
-coherent (Action.Pop (Indirect p x)) = record { reads = tt; compares = tt }
-coherent (Action.Pop (Immediate n)) = record { reads = tt; compares = tt }
-coherent (Action.LoadCode d c) = record { reads = tt; compares = tt }
-coherent (Action.LoadCodeStep d p up) = record { reads = tt; compares = tt }
-coherent Action.External = record { reads = tt; compares = tt }
-coherent (Action.Jump n to) = record { reads = tt; compares = tt }
-coherent (Action.JumpPair p) = record { reads = tt; compares = tt }
-coherent (Action.Call to) = record { reads = tt; compares = tt }
-coherent (Action.CallPair p) = record { reads = tt; compares = tt }
-coherent Action.Return = record { reads = tt; compares = tt }
-coherent Action.InterruptReturn = record { reads = tt; compares = tt }
-coherent (Action.Carry c) = record { reads = tt; compares = tt }
-coherent (Action.Interrupts on) = record { reads = tt; compares = tt }
-coherent Action.Idle = record { reads = tt; compares = tt }
-coherent Action.Stop = record { reads = tt; compares = tt }
-coherent Action.Nop = record { reads = tt; compares = tt }
+coherent (Action.Binary op d s) ns = binary-coherent (stores op) op d s ns
+coherent (Action.Modify op (Register a)) ns = record { reads = modify-reads op a Access.Nothing; compares = changed-compares ns _ }
+coherent (Action.Modify op (Indirect p x)) ns = record { reads = tt; compares = changed-compares ns _ }
+coherent (Action.Modify op (Immediate n)) ns = record { reads = tt; compares = tt }
+coherent (Action.Load d s) ns = load-coherent d s ns
+coherent (Action.Push s) ns = record { reads = tt; compares = changed-compares ns _ }
+coherent (Action.Pop (Register a)) ns = record { reads = tt; compares = changed-compares ns _ }
+coherent (Action.Pop (Indirect p x)) ns = record { reads = tt; compares = changed-compares ns _ }
+coherent (Action.Pop (Immediate n)) ns = record { reads = tt; compares = tt }
+coherent (Action.LoadCode d c) ns = record { reads = tt; compares = changed-compares ns _ }
+coherent (Action.LoadCodeStep d p up) ns = record { reads = tt; compares = changed-compares ns _ }
+coherent Action.External ns = record { reads = tt; compares = tt }
+coherent (Action.Jump n to) ns = record { reads = tt; compares = changed-compares ns _ }
+coherent (Action.JumpPair p) ns = record { reads = tt; compares = tt }
+coherent (Action.Call to) ns = record { reads = tt; compares = changed-compares ns _ }
+coherent (Action.CallPair p) ns = record { reads = tt; compares = tt }
+coherent Action.Return ns = record { reads = tt; compares = changed-compares ns _ }
+coherent Action.InterruptReturn ns = record { reads = tt; compares = changed-compares ns _ }
+coherent (Action.Carry c) ns = record { reads = tt; compares = changed-compares ns _ }
+coherent (Action.Interrupts on) ns = record { reads = tt; compares = changed-compares ns _ }
+coherent Action.Idle ns = record { reads = tt; compares = changed-compares ns _ }
+coherent Action.Stop ns = record { reads = tt; compares = tt }
+coherent Action.Nop ns = record { reads = tt; compares = changed-compares ns _ }

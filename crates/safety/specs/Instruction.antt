@@ -12,6 +12,7 @@ use Rattle.base.specs.Formula.{Holds}
 use Rattle.base.specs.Outcome.{Outcome}
 use Rattle.base.specs.Outcome.Outcome.{value, refused}
 use Rattle.base.specs.Lengths.{romLength}
+use Rattle.isa.specs.declared.FlagSet.{FlagSet}
 use Rattle.isa.specs.declared.Instruction.{Instruction}
 use Rattle.alu.specs.Flags.{condition}
 use Rattle.decode.specs.Decode.{decodeAt}
@@ -26,13 +27,14 @@ use Rattle.safety.specs.Rules.{flowAllowed, rule22, rule25}
 use Rattle.certificate.specs.Summaries.{summaryOf}
 use Rattle.safety.specs.Verdicts.{summaryFrom, sizeFrom, summaryAt, nextAt, costAt}
 use Rattle.safety.specs.Statement.{Frame, Open, transferOf, loadsTop, charge, outward, spends, closing, PointersRight, ReturnsRight, Within, transferred, Opener, byCall, byInterrupt}
-use Rattle.safety.specs.Invariant.{at, Awake, Invariant, Shaped, tableOf}
+use Rattle.safety.specs.Invariant.{at, Awake, Invariant, Shaped, tableOf, FlagsAfter}
 use Rattle.safety.specs.Accepted.{Accepts, RulesHold}
 use Rattle.safety.specs.Facts.{Global, global}
 use Rattle.safety.specs.Memory.{Input}
 use Rattle.safety.specs.StepRules.{StepRules}
 use Rattle.safety.specs.Transfers.{step-stays, is-call, is-return, is-interrupt-return, loadedAfter, loads-top}
 use Rattle.safety.specs.Refine.{refine, depth-met}
+use Rattle.safety.specs.RefineOperands.{flags-kept}
 use Rattle.safety.specs.Coherent.{coherent}
 use Rattle.safety.specs.Edge.{CertificateFacts}
 use Rattle.safety.specs.Plain.{RulesOf, rules-of, entry-of, before-of, inv-step}
@@ -41,33 +43,33 @@ use Rattle.safety.specs.Calls.{ReturnRight, calledFrame, inv-call, inv-r
 use Rattle.safety.specs.Interrupts.{inv-interrupt-return}
 
 -- the rules at an address, for the instruction that is decoded there
-pub rules-decoded : (C : Certificate) (image : List ℕ) (a : ℕ) (d : Instruction × ℕ) → decodeAt image a ≡ value d → RulesHold C image a
-    → RulesOf C a (summaryOf (actionOf (d .0) (romAddr ((a + d .1) % 65536)))) ((a + d .1) % 65536) (costAt image a)
+pub rules-decoded : (C : Certificate) (image : List ℕ) (a : ℕ) (d : Instruction × ℕ × FlagSet) → decodeAt image a ≡ value d → RulesHold C image a
+    → RulesOf C a (summaryOf (actionOf (d .0) (romAddr ((a + d .1) % 65536))) (d .2)) ((a + d .1) % 65536) (costAt image a)
 unfolding summaryAt nextAt summaryFrom
 rules-decoded C image a d q h =
-    subst (λ (o : Outcome (Instruction × ℕ)). RulesOf C a (summaryFrom o a) ((a + sizeFrom o) % 65536) (costAt image a)) q (rules-of C image a h)
+    subst (λ (o : Outcome (Instruction × ℕ × FlagSet)). RulesOf C a (summaryFrom o a) ((a + sizeFrom o) % 65536) (costAt image a)) q (rules-of C image a h)
 
-pub table-decoded : (C : Certificate) (image : List ℕ) (a : ℕ) (d : Instruction × ℕ) → decodeAt image a ≡ value d
-    → tableOf C a (summaryAt image a) ≡ tableOf C a (summaryOf (actionOf (d .0) (romAddr ((a + d .1) % 65536))))
+pub table-decoded : (C : Certificate) (image : List ℕ) (a : ℕ) (d : Instruction × ℕ × FlagSet) → decodeAt image a ≡ value d
+    → tableOf C a (summaryAt image a) ≡ tableOf C a (summaryOf (actionOf (d .0) (romAddr ((a + d .1) % 65536))) (d .2))
 unfolding summaryAt summaryFrom
-table-decoded C image a d q = ap (λ (o : Outcome (Instruction × ℕ)). tableOf C a (summaryFrom o a)) q
+table-decoded C image a d q = ap (λ (o : Outcome (Instruction × ℕ × FlagSet)). tableOf C a (summaryFrom o a)) q
 
 -- at an address with an entry an instruction is decoded
-decoded-some : (C : Certificate) (a : ℕ) (o : Outcome (Instruction × ℕ)) → Holds (rule22 C a (summaryFrom o a)) → (d : Instruction × ℕ) × (o ≡ value d)
+decoded-some : (C : Certificate) (a : ℕ) (o : Outcome (Instruction × ℕ × FlagSet)) → Holds (rule22 C a (summaryFrom o a)) → (d : Instruction × ℕ × FlagSet) × (o ≡ value d)
 unfolding summaryFrom rule22
 decoded-some C a (value d) h = (d, refl)
 decoded-some C a (refused n) h = absurd (h .1)
 
-pub decoded-at : (C : Certificate) (image : List ℕ) (a : ℕ) → RulesHold C image a → (d : Instruction × ℕ) × (decodeAt image a ≡ value d)
+pub decoded-at : (C : Certificate) (image : List ℕ) (a : ℕ) → RulesHold C image a → (d : Instruction × ℕ × FlagSet) × (decodeAt image a ≡ value d)
 unfolding summaryAt
 decoded-at C image a h = decoded-some C a (decodeAt image a) (h .r22)
 
 module _ (C : Certificate) (image : List ℕ) where
-  -- the instruction act at a on the registers r, with the address next behind it and cost c; o are the open routines
-  pub record Right (ld : Bool) (a : ℕ) (act : Action) (r rec : List ℕ) (next : RomAddr) (c : ℕ) (o : Open) (e : Executed) : Type 0 where
+  -- the instruction act at a, with the flags ns that it names, on the registers r, with the address next behind it and cost c; o are the open routines
+  pub record Right (ld : Bool) (a : ℕ) (act : Action) (ns : FlagSet) (r rec : List ℕ) (next : RomAddr) (c : ℕ) (o : Open) (e : Executed) : Type 0 where
     pub goes : e .next .stop ≡ 0
     pub awake : Awake (e .next .mode)
-    pub pointers : PointersRight C image (tableOf C a (summaryOf act)) r rec act
+    pub pointers : PointersRight C image (tableOf C a (summaryOf act ns)) r rec act
     pub returning : ReturnsRight (transferOf act) (o .inner) (e .next .pc .0)
     pub within : Within C (charge c o .inner ∷ charge c o .outer)
     pub keeps :
@@ -80,42 +82,45 @@ module _ (C : Certificate) (image : List ℕ) (ok : Accepts C image) (facts : Ce
   gl : Global C image
   gl = global C image ok
 
-  module _ (ld : Bool) (a : ℕ) (act : Action) (r rec : List ℕ) (next : RomAddr) (c : ℕ) (o : Open) (shaped : Shaped act) (input : Input rec)
-      (rules : RulesOf C a (summaryOf act) (next .0) c) (v : Invariant C ld r a (o .inner) (o .outer)) where
-    step-rules : StepRules C a (summaryOf act)
+  module _ (ld : Bool) (a : ℕ) (act : Action) (ns : FlagSet) (r rec : List ℕ) (next : RomAddr) (c : ℕ) (o : Open) (shaped : Shaped ns act) (input : Input rec)
+      (rules : RulesOf C a (summaryOf act ns) (next .0) c) (v : Invariant C ld r a (o .inner) (o .outer)) where
+    step-rules : StepRules C a (summaryOf act ns)
     unfolding rule25
     step-rules = record { r23 = rules .r23; r24 = rules .r24; stack = rules .r25 .0 }
 
     -- an instruction that stays in its routine
-    right-step : (n : ℕ) (to : RomAddr) → summaryOf act .flow ≡ Step n to → Right C image ld a act r rec next c o (executeOf act image r rec next)
+    right-step : (n : ℕ) (to : RomAddr) → summaryOf act ns .flow ≡ Step n to → Right C image ld a act ns r rec next c o (executeOf act ns image r rec next)
     right-step n to flow =
         let f = o .inner in
         let fs = o .outer in
         let d =
-        refine C image gl size bytes a (entry-of C image gl ld r a f fs v) r rec (before-of C ld r a f fs v) input next
+        refine C image gl size bytes a (entry-of C image gl ld r a f fs v) r rec (before-of C ld r a f fs v) input next ns
         (depth-met C ld r a f fs (v .stack)) act shaped n to flow step-rules in
-        let r′ = executeOf act image r rec next .regs in
-        let w : Invariant C (loadedAfter (summaryOf act .stack) ld) r′ (pick (condition n (at r flagsCell)) (to .0) (next .0)) (spends c f) (outward c fs (f .opener))
-        = inv-step C image gl facts ld r r′ a f fs (summaryOf act) (next .0) c n to flow (coherent act) rules v (d .refines) in
-        let l = loads-top C a act ld (rules .r23) in
-        let t = step-stays act n to flow in
+        let r′ = executeOf act ns image r rec next .regs in
+        let w : Invariant C (loadedAfter (summaryOf act ns .stack) ld) r′ (pick (condition n (at r flagsCell)) (to .0) (next .0)) (spends c f) (outward c fs (f .opener))
+        = inv-step C image gl facts ld r r′ a f fs (summaryOf act ns) (next .0) c n to flow (coherent act ns) rules v (d .refines) in
+        let l = loads-top C a act ns ld (rules .r23) in
+        let t = step-stays act ns n to flow in
         record {
           goes = d .goes;
           awake = d .mode;
           pointers = d .pointers;
           returning = rw t tt;
-          within = within-of C (loadedAfter (summaryOf act .stack) ld) _ _ _ _ w;
+          within = within-of C (loadedAfter (summaryOf act ns .stack) ld) _ _ _ _ w;
           keeps = λ s′ q. rw (t, l, d .counter) w;
         }
 
     -- CALL
-    right-call : (to : RomAddr) → summaryOf act .flow ≡ Call to → Right C image ld a act r rec next c o (executeOf act image r rec next)
+    right-call : (to : RomAddr) → summaryOf act ns .flow ≡ Call to → Right C image ld a act ns r rec next c o (executeOf act ns image r rec next)
+    unfolding summaryOf
     right-call to flow =
         let f = o .inner in
         let fs = o .outer in
-        let w = inv-call C image gl facts ld r rec a f fs (summaryOf act) next to c flow rules v in
-        let e = executeOf (Action.Call to) image r rec next in
-        subst (λ (x : Action). Right C image ld a x r rec next c o (executeOf x image r rec next)) (sym (is-call act to flow))
+        let after : (r′ : List ℕ) → at r′ flagsCell ≡ at r flagsCell → FlagsAfter (summaryOf act ns .flags) r r′
+        = λ r′ k. subst (λ (x : Action). FlagsAfter (summaryOf x ns .flags) r r′) (sym (is-call act ns to flow)) (flags-kept ns r r′ k) in
+        let w = inv-call C image gl facts ns ld r rec a f fs (summaryOf act ns) next to c flow after rules v in
+        let e = executeOf (Action.Call to) ns image r rec next in
+        subst (λ (x : Action). Right C image ld a x ns r rec next c o (executeOf x ns image r rec next)) (sym (is-call act ns to flow))
         (record {
           goes = w .goes;
           awake = w .mode;
@@ -129,15 +134,15 @@ module _ (C : Certificate) (image : List ℕ) (ok : Accepts C image) (facts : Ce
         })
 
     -- a return closes the innermost routine
-    right-closing : (x : Action) (p : Opener) → ReturnRight C image x p ld r rec next c (o .inner) (o .outer)
-        → PointersRight C image (tableOf C a (summaryOf x)) r rec x
-        → ReturnsRight (transferOf x) (o .inner) (executeOf x image r rec next .next .pc .0)
+    right-closing : (x : Action) (p : Opener) → ReturnRight C image x ns p ld r rec next c (o .inner) (o .outer)
+        → PointersRight C image (tableOf C a (summaryOf x ns)) r rec x
+        → ReturnsRight (transferOf x) (o .inner) (executeOf x ns image r rec next .next .pc .0)
         → (loadsTop (C .top) x || ld) ≡ ld
         → ((s′ : State) → transferred C (transferOf x) next s′ (charge c o) ≡ closing (charge c o))
-        → Right C image ld a x r rec next c o (executeOf x image r rec next)
+        → Right C image ld a x ns r rec next c o (executeOf x ns image r rec next)
     right-closing x p w ptr ret same close =
         let f = o .inner in
-        let e = executeOf x image r rec next in
+        let e = executeOf x ns image r rec next in
         record {
           goes = w .goes;
           awake = w .mode;
@@ -153,21 +158,21 @@ module _ (C : Certificate) (image : List ℕ) (ok : Accepts C image) (facts : Ce
         }
 
     -- RET
-    right-return : summaryOf act .flow ≡ Return → Right C image ld a act r rec next c o (executeOf act image r rec next)
+    right-return : summaryOf act ns .flow ≡ Return → Right C image ld a act ns r rec next c o (executeOf act ns image r rec next)
     right-return flow =
-        let w = inv-return C image gl facts ld r rec a (o .inner) (o .outer) (summaryOf act) next c flow rules v in
-        subst (λ (x : Action). Right C image ld a x r rec next c o (executeOf x image r rec next)) (sym (is-return act flow))
+        let w = inv-return C image gl facts ns ld r rec a (o .inner) (o .outer) (summaryOf act ns) next c flow rules v in
+        subst (λ (x : Action). Right C image ld a x ns r rec next c o (executeOf x ns image r rec next)) (sym (is-return act ns flow))
         (right-closing Action.Return byCall w tt (w .counter, w .opener) refl (λ s′. refl))
 
     -- IRET
-    right-interrupt-return : summaryOf act .flow ≡ InterruptReturn → Right C image ld a act r rec next c o (executeOf act image r rec next)
+    right-interrupt-return : summaryOf act ns .flow ≡ InterruptReturn → Right C image ld a act ns r rec next c o (executeOf act ns image r rec next)
     right-interrupt-return flow =
-        let w = inv-interrupt-return C image gl facts ld r rec a (o .inner) (o .outer) (summaryOf act) next c flow rules v in
-        subst (λ (x : Action). Right C image ld a x r rec next c o (executeOf x image r rec next)) (sym (is-interrupt-return act flow))
+        let w = inv-interrupt-return C image gl facts ns ld r rec a (o .inner) (o .outer) (summaryOf act ns) next c flow rules v in
+        subst (λ (x : Action). Right C image ld a x ns r rec next c o (executeOf x ns image r rec next)) (sym (is-interrupt-return act ns flow))
         (right-closing Action.InterruptReturn byInterrupt w tt (w .counter, w .opener) refl (λ s′. refl))
 
     -- by the flow of its summary; rule 22 allows no other
-    right-flow : (f : Flow) → summaryOf act .flow ≡ f → Right C image ld a act r rec next c o (executeOf act image r rec next)
+    right-flow : (f : Flow) → summaryOf act ns .flow ≡ f → Right C image ld a act ns r rec next c o (executeOf act ns image r rec next)
     unfolding rule22
     right-flow (Step n to) q = right-step n to q
     right-flow (Call to) q = right-call to q
@@ -175,5 +180,5 @@ module _ (C : Certificate) (image : List ℕ) (ok : Accepts C image) (facts : Ce
     right-flow InterruptReturn q = right-interrupt-return q
     right-flow Forbidden q = absurd (subst (λ (f : Flow). Holds (flowAllowed (C .routine a) f)) q (rules .r22 .1))
 
-    pub right : Right C image ld a act r rec next c o (executeOf act image r rec next)
-    right = right-flow (summaryOf act .flow) refl
+    pub right : Right C image ld a act ns r rec next c o (executeOf act ns image r rec next)
+    right = right-flow (summaryOf act ns .flow) refl

@@ -10,6 +10,7 @@ use lib.Dec.{T}
 use Rattle.base.specs.declared.RomAddr.{RomAddr}
 use Rattle.base.specs.Addresses.{flagsCell, spCell, symCell}
 use Rattle.base.specs.Formula.{Holds}
+use Rattle.isa.specs.declared.FlagSet.{FlagSet}
 use Rattle.chip.specs.Registers.{storeOf, loadOf}
 use Rattle.chip.specs.Interrupts.{interruptsEnabled, setInterruptsOf}
 use Rattle.chip.specs.Laws.{mapped-ram, load-ram, store-other}
@@ -259,12 +260,12 @@ module _ (C : Certificate) (image : List ℕ) (global : Global C image) (more : 
 
   -- IRET --
 
-  return-interrupted : (r rec : List ℕ) (a c : ℕ) (next : RomAddr) (f g : Frame) (rest : List Frame) → Invariant C true r a f (g ∷ rest)
+  return-interrupted : (ns : FlagSet) (r rec : List ℕ) (a c : ℕ) (next : RomAddr) (f g : Frame) (rest : List Frame) → Invariant C true r a f (g ∷ rest)
       → C .routine a ≡ 2 → C .depth a ≡ 0 → Holds (paid C a (plainEdge 0) c (λ v. 0)) → f .opener ≡ byInterrupt
       → InterruptLink C r (at r spCell + C .depth a) f g → Chain C r (at r spCell + C .depth a + 3 + C .depth (f .returnTo)) g rest
-      → ReturnRight C image Action.InterruptReturn byInterrupt true r rec next c f (g ∷ rest)
+      → ReturnRight C image Action.InterruptReturn ns byInterrupt true r rec next c f (g ∷ rest)
   unfolding executeOf interruptReturnOf
-  return-interrupted r rec a c next f g rest v h2 hd m q l ch =
+  return-interrupted ns r rec a c next f g rest v h2 hd m q l ch =
       let e = entry-of C image global true r a f (g ∷ rest) v in
       let s = at r spCell in
       let ht = global .stackTop in
@@ -311,24 +312,24 @@ module _ (C : Certificate) (image : List ℕ) (global : Global C image) (more : 
       }
 
   -- IRET, from the rules that it must meet
-  interrupt-return-now : (ld : Bool) (r rec : List ℕ) (a c : ℕ) (next : RomAddr) (f : Frame) (fs : List Frame) → Invariant C ld r a f fs
+  interrupt-return-now : (ns : FlagSet) (ld : Bool) (r rec : List ℕ) (a c : ℕ) (next : RomAddr) (f : Frame) (fs : List Frame) → Invariant C ld r a f fs
       → C .routine a ≡ 2 → C .depth a ≡ 0 → Holds (paid C a (plainEdge 0) c (λ v. 0))
-      → ReturnRight C image Action.InterruptReturn byInterrupt ld r rec next c f fs
-  interrupt-return-now false r rec a c next f fs v h2 hd m = let d = v .stack .unloaded in absurd (omega arith)
-  interrupt-return-now true r rec a c next f [] v h2 hd m = let z = v .stack .chain .1 in let h = v .home in absurd (omega arith)
-  interrupt-return-now true r rec a c next f (g ∷ rest) v h2 hd m = go (f .opener) refl (v .stack .chain .1) (v .stack .chain .2)
+      → ReturnRight C image Action.InterruptReturn ns byInterrupt ld r rec next c f fs
+  interrupt-return-now ns false r rec a c next f fs v h2 hd m = let d = v .stack .unloaded in absurd (omega arith)
+  interrupt-return-now ns true r rec a c next f [] v h2 hd m = let z = v .stack .chain .1 in let h = v .home in absurd (omega arith)
+  interrupt-return-now ns true r rec a c next f (g ∷ rest) v h2 hd m = go (f .opener) refl (v .stack .chain .1) (v .stack .chain .2)
     where
       go : (o : Opener) → f .opener ≡ o → Link C o r (at r spCell + C .depth a) f g
           → Chain C r (at r spCell + C .depth a + frameSize o + C .depth (f .returnTo)) g rest
-          → ReturnRight C image Action.InterruptReturn byInterrupt true r rec next c f (g ∷ rest)
+          → ReturnRight C image Action.InterruptReturn ns byInterrupt true r rec next c f (g ∷ rest)
       go byReset q l ch = absurd l
       go byCall q l ch = let z = l .callee in let h = v .home in absurd (omega arith)
-      go byInterrupt q l ch = return-interrupted r rec a c next f g rest v h2 hd m q l ch
+      go byInterrupt q l ch = return-interrupted ns r rec a c next f g rest v h2 hd m q l ch
 
-  pub inv-interrupt-return : (ld : Bool) (r rec : List ℕ) (a : ℕ) (f : Frame) (fs : List Frame) (S : Summary) (next : RomAddr) (c : ℕ)
+  pub inv-interrupt-return : (ns : FlagSet) (ld : Bool) (r rec : List ℕ) (a : ℕ) (f : Frame) (fs : List Frame) (S : Summary) (next : RomAddr) (c : ℕ)
       → S .flow ≡ InterruptReturn → RulesOf C a S (next .0) c → Invariant C ld r a f fs
-      → ReturnRight C image Action.InterruptReturn byInterrupt ld r rec next c f fs
+      → ReturnRight C image Action.InterruptReturn ns byInterrupt ld r rec next c f fs
   unfolding rule22
-  inv-interrupt-return ld r rec a f fs S next c flow rules v =
+  inv-interrupt-return ns ld r rec a f fs S next c flow rules v =
       let z = end-rules C image global more a S (next .0) c InterruptReturn flow rules in
-      interrupt-return-now ld r rec a c next f fs v (subst (λ (k : Flow). Holds (flowAllowed (C .routine a) k)) flow (rules .r22 .1)) (z .0) (z .1)
+      interrupt-return-now ns ld r rec a c next f fs v (subst (λ (k : Flow). Holds (flowAllowed (C .routine a) k)) flow (rules .r22 .1)) (z .0) (z .1)

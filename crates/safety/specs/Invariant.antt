@@ -11,6 +11,9 @@ use Rattle.base.specs.declared.RomAddr.{RomAddr}
 use Rattle.base.specs.Addresses.{flagsCell, spCell}
 use Rattle.base.specs.Choice.{pick}
 use Rattle.base.specs.Lengths.{romLength}
+use Rattle.isa.specs.declared.Alu.the-variants.{Cp}
+use Rattle.isa.specs.declared.FlagSet.{FlagSet}
+use Rattle.isa.specs.Flags.{allFlags}
 use Rattle.chip.specs.Interrupts.{interruptsEnabled}
 use Rattle.alu.specs.Flags.{condition}
 use Rattle.alu.specs.Operations.{compareFlags}
@@ -228,12 +231,12 @@ module _ (C : Certificate) where
   unfoldable pub tableOf : ℕ → Summary → ℕ
   tableOf a S = writeTable a (S .write) (readTable a (S .second) (readTable a (S .first) 0))
 
-  -- an instruction that stays in its routine does not stop, and does what its summary S says
-  pub record Does (image : List ℕ) (a : ℕ) (S : Summary) (act : Action) (r rec : List ℕ) (next : RomAddr) (cc : ℕ) (to : ℕ) : Type 0 where
-    pub goes : executeOf act image r rec next .next .stop ≡ 0
-    pub mode : Awake (executeOf act image r rec next .next .mode)
-    pub counter : executeOf act image r rec next .next .pc .0 ≡ pick (condition cc (at r flagsCell)) to (next .0)
-    pub refines : Refines a S r (executeOf act image r rec next .regs)
+  -- an instruction that stays in its routine, with the flags ns that it names, does not stop, and does what its summary S says
+  pub record Does (image : List ℕ) (a : ℕ) (S : Summary) (act : Action) (ns : FlagSet) (r rec : List ℕ) (next : RomAddr) (cc : ℕ) (to : ℕ) : Type 0 where
+    pub goes : executeOf act ns image r rec next .next .stop ≡ 0
+    pub mode : Awake (executeOf act ns image r rec next .next .mode)
+    pub counter : executeOf act ns image r rec next .next .pc .0 ≡ pick (condition cc (at r flagsCell)) to (next .0)
+    pub refines : Refines a S r (executeOf act ns image r rec next .regs)
     pub pointers : PointersRight C image (tableOf a S) r rec act
 
 -- a number operand is a byte
@@ -248,34 +251,35 @@ SmallOffset (CodeAddress.Direct a) = Unit {0}
 SmallOffset (CodeAddress.Short p x) = x < 256
 SmallOffset (CodeAddress.Long p x) = Unit {0}
 
--- at most one operand goes through a pointer, no destination is a number, numbers are bytes: so it is of every decoded instruction
-abbrev pub Shaped : Action → Type 0
-Shaped (Action.Binary op (Register a) s) = Small s
-Shaped (Action.Binary op (Indirect p x) s) = ⊥
-Shaped (Action.Binary op (Immediate n) s) = ⊥
-Shaped (Action.Modify op (Register a)) = Unit {0}
-Shaped (Action.Modify op (Indirect p x)) = Unit {0}
-Shaped (Action.Modify op (Immediate n)) = ⊥
-Shaped (Action.Load (Register a) s) = Small s
-Shaped (Action.Load (Indirect p x) (Register b)) = Unit {0}
-Shaped (Action.Load (Indirect p x) (Indirect q y)) = ⊥
-Shaped (Action.Load (Indirect p x) (Immediate n)) = n < 256
-Shaped (Action.Load (Immediate n) s) = ⊥
-Shaped (Action.Push s) = Small s
-Shaped (Action.Pop (Register a)) = Unit {0}
-Shaped (Action.Pop (Indirect p x)) = Unit {0}
-Shaped (Action.Pop (Immediate n)) = ⊥
-Shaped (Action.LoadCode d c) = SmallOffset c
-Shaped (Action.LoadCodeStep d p up) = Unit {0}
-Shaped Action.External = Unit {0}
-Shaped (Action.Jump cc to) = Unit {0}
-Shaped (Action.JumpPair p) = Unit {0}
-Shaped (Action.Call to) = Unit {0}
-Shaped (Action.CallPair p) = Unit {0}
-Shaped Action.Return = Unit {0}
-Shaped Action.InterruptReturn = Unit {0}
-Shaped (Action.Carry c) = Unit {0}
-Shaped (Action.Interrupts on) = Unit {0}
-Shaped Action.Idle = Unit {0}
-Shaped Action.Stop = Unit {0}
-Shaped Action.Nop = Unit {0}
+-- at most one operand goes through a pointer, no destination is a number, numbers are bytes, CP and IRET name all four flags: so it is of
+-- every decoded instruction with the flags that it names
+abbrev pub Shaped : FlagSet → Action → Type 0
+Shaped ns (Action.Binary op (Register a) s) = Small s × (op ≡ Cp → ns ≡ allFlags)
+Shaped ns (Action.Binary op (Indirect p x) s) = ⊥
+Shaped ns (Action.Binary op (Immediate n) s) = ⊥
+Shaped ns (Action.Modify op (Register a)) = Unit {0}
+Shaped ns (Action.Modify op (Indirect p x)) = Unit {0}
+Shaped ns (Action.Modify op (Immediate n)) = ⊥
+Shaped ns (Action.Load (Register a) s) = Small s
+Shaped ns (Action.Load (Indirect p x) (Register b)) = Unit {0}
+Shaped ns (Action.Load (Indirect p x) (Indirect q y)) = ⊥
+Shaped ns (Action.Load (Indirect p x) (Immediate n)) = n < 256
+Shaped ns (Action.Load (Immediate n) s) = ⊥
+Shaped ns (Action.Push s) = Small s
+Shaped ns (Action.Pop (Register a)) = Unit {0}
+Shaped ns (Action.Pop (Indirect p x)) = Unit {0}
+Shaped ns (Action.Pop (Immediate n)) = ⊥
+Shaped ns (Action.LoadCode d c) = SmallOffset c
+Shaped ns (Action.LoadCodeStep d p up) = Unit {0}
+Shaped ns Action.External = Unit {0}
+Shaped ns (Action.Jump cc to) = Unit {0}
+Shaped ns (Action.JumpPair p) = Unit {0}
+Shaped ns (Action.Call to) = Unit {0}
+Shaped ns (Action.CallPair p) = Unit {0}
+Shaped ns Action.Return = Unit {0}
+Shaped ns Action.InterruptReturn = ns ≡ allFlags
+Shaped ns (Action.Carry c) = Unit {0}
+Shaped ns (Action.Interrupts on) = Unit {0}
+Shaped ns Action.Idle = Unit {0}
+Shaped ns Action.Stop = Unit {0}
+Shaped ns Action.Nop = Unit {0}

@@ -17,8 +17,7 @@ use Rattle.chip.specs.Registers.{mappedOf, keptBits, keptOf, writtenOf, loadOf,
 use Rattle.chip.specs.Laws.{load-byte, store-length, store-other, store-same, store-bytes}
 use Rattle.chip.specs.Interrupts.{setInterruptsOf}
 use Rattle.chip.specs.InterruptLaws.{set-interrupts-length, set-interrupts-other, set-interrupts-bytes}
-use Rattle.alu.specs.declared.FlagUpdate.{FlagUpdate}
-use Rattle.alu.specs.declared.FlagUpdate.the-variants.{Unchanged, Carry, Result, CarryResult}
+use Rattle.isa.specs.declared.FlagSet.{FlagSet}
 use Rattle.alu.specs.Flags.{update}
 use Rattle.alu.specs.Laws.{update-bound, update-low}
 use Rattle.semantics.specs.Operands.{withFlags}
@@ -93,28 +92,23 @@ pub sp-same : (r : List ℕ) (s : ℕ) → Registers r → at (set r spCell s) s
 sp-same r s g = getD-set-same r spCell s 0 (let z = g .size in omega arith)
 
 -- the named flags are set
-flags-low : (f : ℕ) (u : FlagUpdate) → f % 16 ≡ 0 → update f u % 16 ≡ 0
-unfolding update
-flags-low f Unchanged h = h
-flags-low f (Carry c) h = update-low f (Carry c) (λ e. let z : _≡_ {A = ℕ} 0 1 = cc in omega arith)
-flags-low f (Result z s v) h = update-low f (Result z s v) (λ e. let y : _≡_ {A = ℕ} 0 1 = cc in omega arith)
-flags-low f (CarryResult c z s v) h = update-low f (CarryResult c z s v) (λ e. let y : _≡_ {A = ℕ} 0 1 = cc in omega arith)
-
-pub flags-same : (r : List ℕ) (u : FlagUpdate) → Registers r → at (withFlags r u) flagsCell ≡ update (at r flagsCell) u
+pub flags-same : (r : List ℕ) (ns : FlagSet) (v : ℕ) → Registers r → at (withFlags r ns v) flagsCell ≡ update (at r flagsCell) ns v
 unfolding withFlags
-flags-same r u g = getD-set-same r flagsCell (update (at r flagsCell) u) 0 (let z = g .size in omega arith)
+flags-same r ns v g = getD-set-same r flagsCell (update (at r flagsCell) ns v) 0 (let z = g .size in omega arith)
 
-pub flags-other : (r : List ℕ) (u : FlagUpdate) (x : ℕ) → x ≢ flagsCell → at (withFlags r u) x ≡ at r x
+pub flags-other : (r : List ℕ) (ns : FlagSet) (v x : ℕ) → x ≢ flagsCell → at (withFlags r ns v) x ≡ at r x
 unfolding withFlags
-flags-other r u x n = getD-set-other r flagsCell x (update (at r flagsCell) u) 0 n
+flags-other r ns v x n = getD-set-other r flagsCell x (update (at r flagsCell) ns v) 0 n
 
-pub flags-registers : (r : List ℕ) (u : FlagUpdate) → Registers r → Registers (withFlags r u)
+pub flags-registers : (r : List ℕ) (ns : FlagSet) (v : ℕ) → Registers r → Registers (withFlags r ns v)
 unfolding withFlags
-flags-registers r u g = record {
-  size = length-set r flagsCell (update (at r flagsCell) u) ∙ g .size;
-  bytes = set-cells (λ (k x : ℕ). x < 256) r flagsCell (update (at r flagsCell) u) (g .bytes) (update-bound (at r flagsCell) u (g .bytes flagsCell));
-  flags = rw (flags-same r u g) (flags-low (at r flagsCell) u (g .flags));
-}
+flags-registers r ns v g =
+    let u = update (at r flagsCell) ns v in
+    record {
+      size = length-set r flagsCell u ∙ g .size;
+      bytes = set-cells (λ (k x : ℕ). x < 256) r flagsCell u (g .bytes) (update-bound (at r flagsCell) ns v (g .bytes flagsCell));
+      flags = rw (flags-same r ns v g) (update-low (at r flagsCell) ns v (g .flags));
+    }
 
 pub interrupts-registers : (r : List ℕ) (on : Bool) → Registers r → Registers (setInterruptsOf r on)
 interrupts-registers r on g = record {

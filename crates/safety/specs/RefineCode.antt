@@ -14,6 +14,7 @@ use Rattle.base.specs.Addresses.{flagsCell}
 use Rattle.base.specs.Choice.{pick}
 use Rattle.base.specs.Formula.{Holds, eq, _‖_, decide-false, ltb-yes}
 use Rattle.base.specs.Lengths.{romLength}
+use Rattle.isa.specs.declared.FlagSet.{FlagSet}
 use Rattle.chip.specs.Registers.{storeOf}
 use Rattle.chip.specs.Laws.{load-ram, store-other}
 use Rattle.alu.specs.Laws.{condition-never}
@@ -28,11 +29,12 @@ use Rattle.certificate.specs.declared.CodeAccess.{CodeAccess}
 use Rattle.certificate.specs.Layout.{Certificate}
 use Rattle.safety.specs.Rules.{low, high, claimed, rule23, rule24, codeInRom}
 use Rattle.safety.specs.Rules.Change.{unchanged, changed}
-use Rattle.certificate.specs.Summaries.{summaryOf, codeAccess, reaching}
+use Rattle.certificate.specs.declared.FlagEffect.the-variants.{Changed}
+use Rattle.certificate.specs.Summaries.{summaryOf, flagEffect, codeAccess, reaching}
 use Rattle.safety.specs.Invariant.{at, Registers, Refines, Before, Effect, Does, Shaped, SmallOffset}
 use Rattle.safety.specs.Facts.{Global, EntryFacts, Writable, is-writable}
 use Rattle.safety.specs.Memory.{Input, load-small, mapped-byte, store-registers}
-use Rattle.safety.specs.RefineOperands.{Written, claimed-ram, not-writable, register-written, refines-written}
+use Rattle.safety.specs.RefineOperands.{Written, claimed-ram, not-writable, register-written, refines-written, flags-kept}
 use Rattle.safety.specs.StepRules.{StepRules}
 
 -- u stored at x, v at y, w at z
@@ -40,7 +42,7 @@ abbrev three : List ℕ → ℕ → ℕ → ℕ → ℕ → ℕ → ℕ → List
 three r x y z u v w = storeOf (storeOf (storeOf r x u) y v) z w
 
 module _ (C : Certificate) (image : List ℕ) (gl : Global C image) (size : length image ≡ romLength) (bytes : (i : ℕ) → getD image i 0 < 256)
-    (a : ℕ) (e : EntryFacts C a) (r rec : List ℕ) (pre : Before C a r) (input : Input rec) (next : RomAddr) where
+    (a : ℕ) (e : EntryFacts C a) (r rec : List ℕ) (pre : Before C a r) (input : Input rec) (next : RomAddr) (ns : FlagSet) where
   -- the address in a pair whose high half is claimed
   pair-word : (p : ℕ) → Holds (claimed C a p) → (low C a p * 256 ≤ wordAt r rec p) × (wordAt r rec p ≤ high C a p * 256 + 255)
   unfolding wordAt
@@ -64,12 +66,13 @@ module _ (C : Certificate) (image : List ℕ) (gl : Global C image) (size : leng
   code-in-rom (Long p x) s h = let w = pair-word (p .0) (h .0) in omega arith
 
   -- an instruction of the group changes what it writes and nothing else
-  refines-reaching : (w : Write) (c : CodeAccess) (r′ : List ℕ) → Written C a w r r′ → Refines C a (reaching w c) r r′
+  refines-reaching : (w : Write) (c : CodeAccess) (r′ : List ℕ) → Written C a w r r′ → Refines C a (reaching w c (flagEffect ns Changed)) r r′
   refines-reaching w c r′ m =
-      refines-written C image gl a e (reaching w c) r r′ r′ refl refl m (m .registers) (λ x n. refl) (m .others flagsCell (gl .flagsClass))
+      refines-written C image gl a e (reaching w c (flagEffect ns Changed)) r r′ r′ refl refl m (m .registers) (λ x n. refl)
+      (flags-kept ns r r′ (m .others flagsCell (gl .flagsClass)))
 
-  pub does-load-code : (d : RegAddr) (c : CodeAddress) → Shaped (Action.LoadCode d c) → StepRules C a (summaryOf (Action.LoadCode d c))
-      → Does C image a (summaryOf (Action.LoadCode d c)) (Action.LoadCode d c) r rec next 0 0
+  pub does-load-code : (d : RegAddr) (c : CodeAddress) → Shaped ns (Action.LoadCode d c) → StepRules C a (summaryOf (Action.LoadCode d c) ns)
+      → Does C image a (summaryOf (Action.LoadCode d c) ns) (Action.LoadCode d c) ns r rec next 0 0
   unfolding summaryOf executeOf loadCodeOf rule23 rule24
   does-load-code d c s rules =
       let A = codeAddress c r rec in
@@ -115,8 +118,8 @@ module _ (C : Certificate) (image : List ℕ) (gl : Global C image) (size : leng
         (not-writable C image gl a e (d .0) x wd h) (not-writable C image gl a e (p .0) x wp h) (not-writable C image gl a e (p .0 + 1) x wq h);
   }
 
-  pub does-load-code-step : (d p : RegAddr) (up : Bool) → Shaped (Action.LoadCodeStep d p up) → StepRules C a (summaryOf (Action.LoadCodeStep d p up))
-      → Does C image a (summaryOf (Action.LoadCodeStep d p up)) (Action.LoadCodeStep d p up) r rec next 0 0
+  pub does-load-code-step : (d p : RegAddr) (up : Bool) → Shaped ns (Action.LoadCodeStep d p up) → StepRules C a (summaryOf (Action.LoadCodeStep d p up) ns)
+      → Does C image a (summaryOf (Action.LoadCodeStep d p up) ns) (Action.LoadCodeStep d p up) ns r rec next 0 0
   unfolding summaryOf executeOf loadCodeStepOf steppedPair rule23 rule24
   does-load-code-step d p up s rules =
       let m = rules .r23 .1 .1 .0 in

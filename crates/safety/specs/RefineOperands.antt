@@ -11,13 +11,14 @@ use Rattle.base.specs.declared.RegAddr.{RegAddr}
 use Rattle.base.specs.declared.RomAddr.{RomAddr}
 use Rattle.base.specs.Addresses.{flagsCell, spCell, symCell}
 use Rattle.base.specs.Choice.{pick}
+use Rattle.base.specs.ChoiceLaws.{pick-has}
 use Rattle.base.specs.Formula.{Formula, always, _&_, Holds, of-true, eqb-yes, leb-yes}
 use Rattle.chip.specs.Registers.{mappedOf, loadOf, storeOf}
 use Rattle.chip.specs.Laws.{load-ram, mapped-ram, store-other, store-ram}
 use Rattle.chip.specs.Interrupts.{interruptsEnabled}
 use Rattle.chip.specs.InterruptLaws.{enabled-same}
-use Rattle.alu.specs.declared.FlagUpdate.{FlagUpdate}
-use Rattle.alu.specs.Laws.{condition-never}
+use Rattle.isa.specs.declared.FlagSet.{FlagSet}
+use Rattle.alu.specs.Laws.{update-none, condition-never}
 use Rattle.action.specs.declared.Operand.{Operand}
 use Rattle.action.specs.declared.Operand.the-variants.{Register, Indirect, Immediate}
 use Rattle.action.specs.declared.Action.{Action}
@@ -26,17 +27,19 @@ use Rattle.semantics.specs.Execute.{goesOn, executeOf}
 use Rattle.certificate.specs.declared.NewValue.{NewValue}
 use Rattle.certificate.specs.declared.NewValue.the-variants.{Number, OneMore, OneLess, AtMost, CopyOf, Unknown}
 use Rattle.certificate.specs.declared.Write.{Write}
+use Rattle.certificate.specs.declared.FlagEffect.{FlagEffect}
+use Rattle.certificate.specs.declared.FlagEffect.the-variants.{Kept, Changed}
 use Rattle.certificate.specs.declared.StackEffect.the-variants.{Same}
 use Rattle.certificate.specs.declared.Control.{Control}
 use Rattle.certificate.specs.declared.Summary.{Summary}
 use Rattle.certificate.specs.Layout.{Certificate}
-use Rattle.certificate.specs.Summaries.{writeTo, reading}
+use Rattle.certificate.specs.Summaries.{writeTo, reading, flagEffect}
 use Rattle.safety.specs.Rules.{ramEnd, low, high, claimed, mapped, writable, reach, directRead, directWrite, pointedRead, pointedWrite, Change, changeOf}
 use Rattle.safety.specs.Rules.Change.{unchanged, changed}
 use Rattle.safety.specs.Statement.{InTable, PointersRight}
 use Rattle.safety.specs.Invariant.{at, Registers, Claims, Effect, FlagsAfter, spAfter, enabledAfter, Refines, readTable, writeTable, tableOf, Does, Small}
 use Rattle.safety.specs.Facts.{Global, EntryFacts, Writable, is-writable}
-use Rattle.safety.specs.Memory.{Input, load-small, store-registers, flags-registers, flags-other}
+use Rattle.safety.specs.Memory.{Input, load-small, store-registers, flags-registers, flags-same, flags-other}
 
 -- an operand that has a place
 abbrev pub HasPlace : Operand → Type 0
@@ -77,6 +80,17 @@ effect-along (changed OneLess) r r′ r″ x q h = q ∙ h
 effect-along (changed (AtMost n)) r r′ r″ x q h = omega arith
 effect-along (changed (CopyOf y)) r r′ r″ x q h = λ l. q ∙ h l
 effect-along (changed Unknown) r r′ r″ x q h = tt
+
+-- FLAGS that an instruction leaves alone, whatever it names
+pub flags-kept : (ns : FlagSet) (r r′ : List ℕ) → at r′ flagsCell ≡ at r flagsCell → FlagsAfter (flagEffect ns Changed) r r′
+flags-kept ns r r′ k = pick-has (λ (f : FlagEffect). FlagsAfter f r r′) (eqb (ns .0) 0) Kept Changed (λ _. k) (λ _. tt)
+
+-- FLAGS, left alone by the write, once the flags that an instruction names are set
+pub flags-set : (ns : FlagSet) (r r′ : List ℕ) (v : ℕ) → Registers r′ → at r′ flagsCell ≡ at r flagsCell
+    → FlagsAfter (flagEffect ns Changed) r (withFlags r′ ns v)
+flags-set ns r r′ v g k =
+    pick-has (λ (f : FlagEffect). FlagsAfter f r (withFlags r′ ns v)) (eqb (ns .0) 0) Kept Changed
+    (λ e. flags-same r′ ns v g ∙ update-none (at r′ flagsCell) ns v (eqb→eq (ns .0) 0 (of-true (eqb (ns .0) 0) e)) ∙ k) (λ _. tt)
 
 module _ (C : Certificate) (a : ℕ) where
   -- rules 23 and 24 of an operand: its register is mapped, its pointer's reach lies in one table, and a rule holds of its places
@@ -260,16 +274,16 @@ module _ (C : Certificate) (image : List ℕ) (gl : Global C image) (a : ℕ) (e
       refines-beyond S r r′ r″ w g (λ x h. k x (omega arith)) (rw hs (k spCell (omega arith) ∙ w .others spCell (gl .spClass))) f
       (rw hc (enabled-same r r″ (k symCell (omega arith) ∙ w .others symCell (gl .symClass))))
 
-  pub refines-flags : (S : Summary) (r r′ : List ℕ) (u : FlagUpdate) → S .stack ≡ Same → S .control ≡ Control.Nothing → Written C a (S .write) r r′
-      → FlagsAfter (S .flags) r (withFlags r′ u) → Refines C a S r (withFlags r′ u)
-  refines-flags S r r′ u hs hc w f =
-      refines-written S r r′ (withFlags r′ u) hs hc w (flags-registers r′ u (w .registers)) (flags-other r′ u) f
+  pub refines-flags : (S : Summary) (r r′ : List ℕ) (ns : FlagSet) (v : ℕ) → S .stack ≡ Same → S .control ≡ Control.Nothing → Written C a (S .write) r r′
+      → FlagsAfter (S .flags) r (withFlags r′ ns v) → Refines C a S r (withFlags r′ ns v)
+  refines-flags S r r′ ns v hs hc w f =
+      refines-written S r r′ (withFlags r′ ns v) hs hc w (flags-registers r′ ns v (w .registers)) (flags-other r′ ns v) f
 
   -- an action that goes on behind itself and meets no unmapped register
-  pub does-onward : (S : Summary) (act : Action) (r rec r′ : List ℕ) (next : RomAddr) (ok : Bool)
-      → executeOf act image r rec next ≡ record { regs = r′; next = goesOn ok next } → ok ≡ true → Refines C a S r r′
-      → PointersRight C image (tableOf C a S) r rec act → Does C image a S act r rec next 0 0
-  does-onward S act r rec r′ next ok q m f p = record {
+  pub does-onward : (S : Summary) (act : Action) (ns : FlagSet) (r rec r′ : List ℕ) (next : RomAddr) (ok : Bool)
+      → executeOf act ns image r rec next ≡ record { regs = r′; next = goesOn ok next } → ok ≡ true → Refines C a S r r′
+      → PointersRight C image (tableOf C a S) r rec act → Does C image a S act ns r rec next 0 0
+  does-onward S act ns r rec r′ next ok q m f p = record {
     goes = rw (q, m);
     mode = rw q tt;
     counter = rw (q, condition-never (at r flagsCell));

@@ -405,7 +405,7 @@ module _ (C : Certificate) where
       claimFollows a e w (C .firstCell (e .to)) (C .firstLow (e .to)) (C .firstHigh (e .to))
       & claimFollows a e w (C .secondCell (e .to)) (C .secondLow (e .to)) (C .secondHigh (e .to))
 
-  -- from its own CP, or from the same compare over an instruction that changes no flag and cannot write its cell
+  -- from its own CP, or from the same compare over an instruction that names no flag and cannot write its cell
   abbrev pub flagsFollow : ℕ → Write → FlagEffect → ℕ → Formula
   flagsFollow a w Kept t =
       eq (C .compareCell t) (C .compareCell a) & eq (C .compareNumber t) (C .compareNumber a)
@@ -425,17 +425,17 @@ module _ (C : Certificate) where
       present x
       ⇒ (lt (C .limit x) k ⇒ le l (low a x) & le (high a x) h) & (le k (C .limit x) ⇒ fullRange l h)
 
-  -- behind CALL, where a compare never holds, and at the start that it goes to
-  unfoldable pub call26 : ℕ → ℕ → ℕ → Formula
-  call26 a next t =
+  -- behind CALL, where a compare never holds, and at the start that it goes to; f is its flag effect
+  unfoldable pub call26 : ℕ → FlagEffect → ℕ → ℕ → Formula
+  call26 a f next t =
       survives a (callee t) (C .firstCell next) (C .firstLow next) (C .firstHigh next)
       & survives a (callee t) (C .secondCell next) (C .secondLow next) (C .secondHigh next)
       & eq (C .compareCell next) noCell
       & claimsFollow a (plainEdge t) Write.Nothing
-      & compareFollows a Write.Nothing Kept t
+      & compareFollows a Write.Nothing f t
 
   unfoldable pub rule26 : ℕ → Summary → ℕ → Formula
-  rule26 a S next = edges (S .flow) next (edge26 a S) & calls (S .flow) (call26 a next)
+  rule26 a S next = edges (S .flow) next (edge26 a S) & calls (S .flow) (call26 a (S .flags) next)
 
   -- Rule 27 --
 

@@ -13,6 +13,7 @@ use Rattle.base.specs.Formula.{eqb-yes}
 use Rattle.base.specs.Outcome.{Outcome}
 use Rattle.base.specs.Outcome.Outcome.{value}
 use Rattle.base.specs.Lengths.{romLength, recordLength}
+use Rattle.isa.specs.declared.FlagSet.{FlagSet}
 use Rattle.isa.specs.declared.Instruction.{Instruction}
 use Rattle.isa.specs.Map.{cyclesOf}
 use Rattle.chip.specs.Interrupts.{interruptsEnabled, pendingAny, pendingEdge}
@@ -122,16 +123,16 @@ module _ (C : Certificate) (image : List ℕ) (ok : Accepts C image) (facts : Ce
         }
 
     -- an instruction that is right
-    good-right : (d : Instruction × ℕ) → decodeAt image (m .state .pc .0) ≡ value d
-        → Right C image (m .loaded) (m .state .pc .0) (actionOf (d .0) (behind (m .state .pc) (d .1))) (requested (m .state) rec) rec
+    good-right : (d : Instruction × ℕ × FlagSet) → decodeAt image (m .state .pc .0) ≡ value d
+        → Right C image (m .loaded) (m .state .pc .0) (actionOf (d .0) (behind (m .state .pc) (d .1))) (d .2) (requested (m .state) rec) rec
         (behind (m .state .pc) (d .1)) (costAt image (m .state .pc .0)) (m .frames)
-        (executeOf (actionOf (d .0) (behind (m .state .pc) (d .1))) image (requested (m .state) rec) rec (behind (m .state .pc) (d .1)))
+        (executeOf (actionOf (d .0) (behind (m .state .pc) (d .1))) (d .2) image (requested (m .state) rec) rec (behind (m .state .pc) (d .1)))
         → Good m rec (afterDecode (value d) image (m .state) (requested (m .state) rec) rec) (decodedEvent (value d) (m .state .pc))
     unfolding afterDecode costAt tables
     good-right d q r =
         let next = behind (m .state .pc) (d .1) in
         let act = actionOf (d .0) next in
-        let e = executeOf act image (requested (m .state) rec) rec next in
+        let e = executeOf act (d .2) image (requested (m .state) rec) rec next in
         subst (λ (x : Acted). Good m rec x (executed act next)) (finish-is (m .state) e true (cyclesOf (getD image (m .state .pc .0) 0)) (r .goes))
         (record {
           goes = refl;
@@ -176,16 +177,16 @@ module _ (C : Certificate) (image : List ℕ) (ok : Accepts C image) (facts : Ce
       }
 
   -- the instruction at the program counter
-  instruction-right : (m : Monitored) (rec : List ℕ) → Kept m → Input rec → (d : Instruction × ℕ) → decodeAt image (m .state .pc .0) ≡ value d
-      → Right C image (m .loaded) (m .state .pc .0) (actionOf (d .0) (behind (m .state .pc) (d .1))) (requested (m .state) rec) rec
+  instruction-right : (m : Monitored) (rec : List ℕ) → Kept m → Input rec → (d : Instruction × ℕ × FlagSet) → decodeAt image (m .state .pc .0) ≡ value d
+      → Right C image (m .loaded) (m .state .pc .0) (actionOf (d .0) (behind (m .state .pc) (d .1))) (d .2) (requested (m .state) rec) rec
       (behind (m .state .pc) (d .1)) (costAt image (m .state .pc .0)) (m .frames)
-      (executeOf (actionOf (d .0) (behind (m .state .pc) (d .1))) image (requested (m .state) rec) rec (behind (m .state .pc) (d .1)))
+      (executeOf (actionOf (d .0) (behind (m .state .pc) (d .1))) (d .2) image (requested (m .state) rec) rec (behind (m .state .pc) (d .1)))
   instruction-right m rec k input d q =
       let a = m .state .pc .0 in
       let v = k .invariant in
       let u = v .used in
       let next = behind (m .state .pc) (d .1) in
-      right C image ok facts size bytes (m .loaded) a (actionOf (d .0) next) (requested (m .state) rec) rec next (costAt image a) (m .frames)
+      right C image ok facts size bytes (m .loaded) a (actionOf (d .0) next) (d .2) (requested (m .state) rec) rec next (costAt image a) (m .frames)
       (decoded-shaped image bytes a d q next) input (rules-decoded C image a d q (ok .rules a (v .inRom) (λ z. omega arith))) (requested-kept m rec k input)
 
   -- an interrupt entry
@@ -213,7 +214,7 @@ module _ (C : Certificate) (image : List ℕ) (ok : Accepts C image) (facts : Ce
         let u = v .used in
         let h = ok .rules (m .state .pc .0) (v .inRom) (λ q. omega arith) in
         let d = decoded-at C image (m .state .pc .0) h in
-        subst (λ (o : Outcome (Instruction × ℕ)). Good m rec (afterDecode o image (m .state) (requested (m .state) rec) rec) (decodedEvent o (m .state .pc)))
+        subst (λ (o : Outcome (Instruction × ℕ × FlagSet)). Good m rec (afterDecode o image (m .state) (requested (m .state) rec) rec) (decodedEvent o (m .state .pc)))
         (sym (d .1)) (good-right m rec k input (d .0) (d .1) (instruction-right m rec k input (d .0) (d .1)))
 
     good-mode : (mode : Mode) → Awake mode → Good m rec (modeAct mode image (m .state) (requested (m .state) rec) rec) (modeEvent mode image (m .state .pc))

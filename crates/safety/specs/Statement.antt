@@ -13,6 +13,7 @@ use Rattle.base.specs.Addresses.{spCell}
 use Rattle.base.specs.Outcome.{Outcome}
 use Rattle.base.specs.Outcome.Outcome.{value, refused}
 use Rattle.base.specs.Lengths.{recordLength}
+use Rattle.isa.specs.declared.FlagSet.{FlagSet}
 use Rattle.isa.specs.declared.Instruction.{Instruction}
 use Rattle.isa.specs.Map.{cyclesOf}
 use Rattle.decode.specs.Decode.{decodeAt}
@@ -82,7 +83,7 @@ pub data Event : Type 0 where
   waited : Event
   executed : Action → RomAddr → Event
 
-abbrev pub decodedEvent : Outcome (Instruction × ℕ) → RomAddr → Event
+abbrev pub decodedEvent : Outcome (Instruction × ℕ × FlagSet) → RomAddr → Event
 decodedEvent (value d) pc = executed (actionOf (d .0) (behind pc (d .1))) (behind pc (d .1))
 decodedEvent (refused n) pc = waited
 

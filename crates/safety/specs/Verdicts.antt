@@ -14,6 +14,7 @@ use Rattle.base.specs.Outcome.{Outcome}
 use Rattle.base.specs.Outcome.Outcome.{value, refused}
 use Rattle.base.specs.Formula.{Formula, Holds, decide, eq, _&_}
 use Rattle.base.specs.Lengths.{romLength, certificateLength, isImageLength, isCertificateLength}
+use Rattle.isa.specs.declared.FlagSet.{FlagSet}
 use Rattle.isa.specs.declared.Instruction.{Instruction}
 use Rattle.isa.specs.Map.{cyclesOf}
 use Rattle.decode.specs.Decode.{decodeAt}
@@ -26,11 +27,11 @@ use Rattle.certificate.specs.Summaries.{summaryOf, forbidden}
 use Rattle.safety.specs.Rules.{rule20, rule21, rule22, rule23, rule24, rule25, rule26, rule27}
 
 -- the instruction at an address: its summary, and the address behind it (one byte where there is none)
-unfoldable pub summaryFrom : Outcome (Instruction × ℕ) → ℕ → Summary
-summaryFrom (value d) a = summaryOf (actionOf (d .0) (romAddr ((a + d .1) % 65536)))
+unfoldable pub summaryFrom : Outcome (Instruction × ℕ × FlagSet) → ℕ → Summary
+summaryFrom (value d) a = summaryOf (actionOf (d .0) (romAddr ((a + d .1) % 65536))) (d .2)
 summaryFrom (refused n) a = forbidden
 
-abbrev pub sizeFrom : Outcome (Instruction × ℕ) → ℕ
+abbrev pub sizeFrom : Outcome (Instruction × ℕ × FlagSet) → ℕ
 sizeFrom (value d) = d .1
 sizeFrom (refused n) = 1
 

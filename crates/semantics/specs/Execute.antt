@@ -1,8 +1,9 @@
 -- What each action does to the registers, the program counter and the mode: the printed actions of the instruction's page in order, each on the
--- state left before it. A register that is not mapped is refusal 13; LDE, LDC that writes, and LDC outside ROM are 14.
+-- state left before it. Of the flags that it computes those are set which the decoder named, n. A register that is not mapped is refusal 13; LDE,
+-- LDC that writes, and LDC outside ROM are 14.
 -- Assumes nothing.
 use Prim.Native.Nat.{ℕ, _+_, _/_, _%_}
-use mathlib.Core.Bool.{Bool, true, _&&_}
+use mathlib.Core.Bool.{Bool, true, false, not, _&&_}
 use mathlib.Core.List.{List}
 use lib.ListN.{length, getD}
 use lib.Dec.{eqb, ltb}
@@ -12,10 +13,10 @@ use Rattle.base.specs.Addresses.{romAddr, flagsCell, stopconCell, displaced}
 use Rattle.base.specs.Choice.{pick}
 use Rattle.isa.specs.declared.Alu.{Alu}
 use Rattle.isa.specs.declared.Unary.{Unary}
+use Rattle.isa.specs.declared.FlagSet.{FlagSet}
 use Rattle.chip.specs.Registers.{mappedOf, loadOf, storeOf}
 use Rattle.chip.specs.Interrupts.{setInterruptsOf}
-use Rattle.alu.specs.declared.FlagUpdate.{FlagUpdate}
-use Rattle.alu.specs.Flags.{carry, condition, resetCarry, setCarry, complementCarry}
+use Rattle.alu.specs.Flags.{carry, flagsByte, condition}
 use Rattle.alu.specs.Operations.{operate, modify, stores}
 use Rattle.action.specs.declared.Operand.{Operand}
 use Rattle.action.specs.declared.CodeAddress.{CodeAddress}
@@ -47,19 +48,19 @@ unfoldable pub storeIf : List ℕ → Bool → RegAddr → ℕ → List ℕ
 storeIf regs on a v = pick on (storeOf regs (a .0) v) regs
 
 -- ADD, ADC, SUB, SBC, OR, AND, XOR; TCM, TM and CP, which store nothing
-unfoldable pub binaryOf : Alu → Operand → Operand → List ℕ → List ℕ → RomAddr → Executed
-binaryOf op d s regs rec pc =
+unfoldable pub binaryOf : Alu → Operand → Operand → FlagSet → List ℕ → List ℕ → RomAddr → Executed
+binaryOf op d s n regs rec pc =
     let p = placeOf regs rec d in
     let q = fetchOf regs rec s in
     let r = operate op (loadOf regs rec (p .addr .0)) (q .value) (carryBefore regs) in
-    record { regs = withFlags (storeIf regs (stores op) (p .addr) (r .value)) (r .flags); next = goesOn (p .ok && q .ok) pc }
+    record { regs = withFlags (storeIf regs (stores op) (p .addr) (r .value)) n (r .flags); next = goesOn (p .ok && q .ok) pc }
 
 -- INC, DEC, COM, CLR, RL, RLC, RR, RRC, SRA
-unfoldable pub modifyOf : Unary → Operand → List ℕ → List ℕ → RomAddr → Executed
-modifyOf op d regs rec pc =
+unfoldable pub modifyOf : Unary → Operand → FlagSet → List ℕ → List ℕ → RomAddr → Executed
+modifyOf op d n regs rec pc =
     let p = placeOf regs rec d in
     let r = modify op (loadOf regs rec (p .addr .0)) (carryBefore regs) in
-    record { regs = withFlags (storeOf regs (p .addr .0) (r .value)) (r .flags); next = goesOn (p .ok) pc }
+    record { regs = withFlags (storeOf regs (p .addr .0) (r .value)) n (r .flags); next = goesOn (p .ok) pc }
 
 -- LD
 unfoldable pub loadInto : Operand → Operand → List ℕ → List ℕ → RomAddr → Executed
@@ -144,38 +145,39 @@ interruptReturnOf regs rec =
     let t = returnOf r rec in
     record { regs = setInterruptsOf (t .regs) true; next = goesOn (mappedOf (spOf regs) && wordMapped (spOf r)) (t .next .pc) }
 
--- RCF, SCF, CCF
-unfoldable pub carryChanged : CarryChange → Bool → FlagUpdate
-carryChanged Reset c = resetCarry
-carryChanged Set c = setCarry
-carryChanged Complement c = complementCarry c
+-- C behind RCF, SCF, CCF (their pages): 0, 1, its opposite
+unfoldable pub carryChanged : CarryChange → Bool → Bool
+carryChanged Reset c = false
+carryChanged Set c = true
+carryChanged Complement c = not c
 
-unfoldable pub carryOf : CarryChange → List ℕ → RomAddr → Executed
-carryOf change regs pc = record { regs = withFlags regs (carryChanged change (carryBefore regs)); next = goesOn true pc }
+unfoldable pub carryOf : CarryChange → FlagSet → List ℕ → RomAddr → Executed
+carryOf change n regs pc =
+    record { regs = withFlags regs n (flagsByte (carryChanged change (carryBefore regs)) false false false); next = goesOn true pc }
 
 -- STOP waits where STOPCON is A5H, else it loads 0100H
 unfoldable pub stopOf : List ℕ → RomAddr → Executed
 stopOf regs pc =
     record { regs = regs; next = pick (eqb (getD regs stopconCell 0) 0xA5) (leaves pc Stopped 0) (leaves (romAddr 0x100) Running 0) }
 
--- one instruction; pc is the address behind it
-unfoldable pub executeOf : Action → List ℕ → List ℕ → List ℕ → RomAddr → Executed
-executeOf (Action.Binary op d s) image regs rec pc = binaryOf op d s regs rec pc
-executeOf (Action.Modify op d) image regs rec pc = modifyOf op d regs rec pc
-executeOf (Action.Load d s) image regs rec pc = loadInto d s regs rec pc
-executeOf (Action.Push s) image regs rec pc = pushOperand s regs rec pc
-executeOf (Action.Pop d) image regs rec pc = popOperand d regs rec pc
-executeOf (Action.LoadCode d c) image regs rec pc = loadCodeOf d c image regs rec pc
-executeOf (Action.LoadCodeStep d p up) image regs rec pc = loadCodeStepOf d p up image regs rec pc
-executeOf Action.External image regs rec pc = record { regs = regs; next = leaves pc Running 14 }
-executeOf (Action.Jump cc to) image regs rec pc = jumpOf cc to regs pc
-executeOf (Action.JumpPair p) image regs rec pc = jumpPairOf p regs rec
-executeOf (Action.Call to) image regs rec pc = callOf to regs pc
-executeOf (Action.CallPair p) image regs rec pc = callPairOf p regs rec pc
-executeOf Action.Return image regs rec pc = returnOf regs rec
-executeOf Action.InterruptReturn image regs rec pc = interruptReturnOf regs rec
-executeOf (Action.Carry change) image regs rec pc = carryOf change regs pc
-executeOf (Action.Interrupts on) image regs rec pc = record { regs = setInterruptsOf regs on; next = goesOn true pc }
-executeOf Action.Idle image regs rec pc = record { regs = regs; next = leaves pc Idle 0 }
-executeOf Action.Stop image regs rec pc = stopOf regs pc
-executeOf Action.Nop image regs rec pc = record { regs = regs; next = goesOn true pc }
+-- one instruction that names the flags n; pc is the address behind it
+unfoldable pub executeOf : Action → FlagSet → List ℕ → List ℕ → List ℕ → RomAddr → Executed
+executeOf (Action.Binary op d s) n image regs rec pc = binaryOf op d s n regs rec pc
+executeOf (Action.Modify op d) n image regs rec pc = modifyOf op d n regs rec pc
+executeOf (Action.Load d s) n image regs rec pc = loadInto d s regs rec pc
+executeOf (Action.Push s) n image regs rec pc = pushOperand s regs rec pc
+executeOf (Action.Pop d) n image regs rec pc = popOperand d regs rec pc
+executeOf (Action.LoadCode d c) n image regs rec pc = loadCodeOf d c image regs rec pc
+executeOf (Action.LoadCodeStep d p up) n image regs rec pc = loadCodeStepOf d p up image regs rec pc
+executeOf Action.External n image regs rec pc = record { regs = regs; next = leaves pc Running 14 }
+executeOf (Action.Jump cc to) n image regs rec pc = jumpOf cc to regs pc
+executeOf (Action.JumpPair p) n image regs rec pc = jumpPairOf p regs rec
+executeOf (Action.Call to) n image regs rec pc = callOf to regs pc
+executeOf (Action.CallPair p) n image regs rec pc = callPairOf p regs rec pc
+executeOf Action.Return n image regs rec pc = returnOf regs rec
+executeOf Action.InterruptReturn n image regs rec pc = interruptReturnOf regs rec
+executeOf (Action.Carry change) n image regs rec pc = carryOf change n regs pc
+executeOf (Action.Interrupts on) n image regs rec pc = record { regs = setInterruptsOf regs on; next = goesOn true pc }
+executeOf Action.Idle n image regs rec pc = record { regs = regs; next = leaves pc Idle 0 }
+executeOf Action.Stop n image regs rec pc = stopOf regs pc
+executeOf Action.Nop n image regs rec pc = record { regs = regs; next = goesOn true pc }

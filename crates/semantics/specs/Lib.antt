@@ -1,4 +1,5 @@
 pub mod Execute
+pub mod Opened
 pub mod Operands
 pub mod Refusals
 pub mod Reset

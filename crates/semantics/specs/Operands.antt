@@ -7,7 +7,7 @@ use lib.ListN.{getD, set}
 use Rattle.base.specs.declared.RomAddr.{RomAddr}
 use Rattle.base.specs.Addresses.{regAddr, flagsCell, spCell}
 use Rattle.chip.specs.Registers.{mappedOf, loadOf, storeOf}
-use Rattle.alu.specs.declared.FlagUpdate.{FlagUpdate}
+use Rattle.isa.specs.declared.FlagSet.{FlagSet}
 use Rattle.alu.specs.Flags.{update}
 use Rattle.action.specs.declared.Operand.{Operand}
 use Rattle.action.specs.declared.Operand.the-variants.{Register, Indirect, Immediate}
@@ -38,9 +38,9 @@ fetchOf regs rec (Register a) = fetchPlace regs rec (placeOf regs rec (Register 
 fetchOf regs rec (Indirect p x) = fetchPlace regs rec (placeOf regs rec (Indirect p x))
 fetchOf regs rec (Immediate n) = record { value = n; ok = true }
 
--- the flags that an instruction names are set over FLAGS as it stands
-unfoldable pub withFlags : List ℕ → FlagUpdate → List ℕ
-withFlags regs u = set regs flagsCell (update (getD regs flagsCell 0) u)
+-- the flags that an instruction names, n, are set over FLAGS as it stands, as they are in x
+unfoldable pub withFlags : List ℕ → FlagSet → ℕ → List ℕ
+withFlags regs n x = set regs flagsCell (update (getD regs flagsCell 0) n x)
 
 -- the registers after a push, and whether SP pointed to a mapped register
 pub record Pushed : Type 0 where

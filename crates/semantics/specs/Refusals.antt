@@ -14,6 +14,7 @@ use Rattle.base.specs.ChoiceLaws.{pick-has}
 use Rattle.base.specs.Outcome.{Outcome}
 use Rattle.base.specs.Outcome.Outcome.{value, refused}
 use Rattle.base.specs.Lengths.{isImageLength, recordLength}
+use Rattle.isa.specs.declared.FlagSet.{FlagSet}
 use Rattle.isa.specs.declared.Instruction.{Instruction}
 use Rattle.decode.specs.Decode.{decodeAt}
 use Rattle.decode.specs.Refusals.{decode-number}
@@ -45,32 +46,32 @@ goes-on false pc = inr (omega arith, omega arith)
 in-rom : (image : List ℕ) (a : ℕ) (pc : RomAddr) → Ends (inRom image a pc)
 in-rom image a pc = pick-has ActionNumber (ltb a (length image)) 0 14 (λ _. inl refl) (λ _. inr (omega arith, omega arith))
 
-execute-ends : (act : Action) (image regs rec : List ℕ) (pc : RomAddr) → Ends (executeOf act image regs rec pc .next)
+execute-ends : (act : Action) (n : FlagSet) (image regs rec : List ℕ) (pc : RomAddr) → Ends (executeOf act n image regs rec pc .next)
 unfolding executeOf binaryOf modifyOf loadInto pushOperand popOperand loadCodeOf loadCodeStepOf jumpOf jumpPairOf callOf callPairOf returnOf interruptReturnOf carryOf stopOf
-execute-ends (Action.Binary op d s) image regs rec pc = goes-on (placeOf regs rec d .ok && fetchOf regs rec s .ok) pc
-execute-ends (Action.Modify op d) image regs rec pc = goes-on (placeOf regs rec d .ok) pc
-execute-ends (Action.Load d s) image regs rec pc = goes-on (placeOf regs rec d .ok && fetchOf regs rec s .ok) pc
-execute-ends (Action.Push s) image regs rec pc =
+execute-ends (Action.Binary op d s) n image regs rec pc = goes-on (placeOf regs rec d .ok && fetchOf regs rec s .ok) pc
+execute-ends (Action.Modify op d) n image regs rec pc = goes-on (placeOf regs rec d .ok) pc
+execute-ends (Action.Load d s) n image regs rec pc = goes-on (placeOf regs rec d .ok && fetchOf regs rec s .ok) pc
+execute-ends (Action.Push s) n image regs rec pc =
     let q = fetchOf (lowered regs) rec s in
     goes-on (q .ok && storeTop (lowered regs) (q .value) .ok) pc
-execute-ends (Action.Pop d) image regs rec pc = goes-on (placeOf regs rec d .ok && mappedOf (spOf regs)) pc
-execute-ends (Action.LoadCode d c) image regs rec pc = in-rom image (codeAddress c regs rec) pc
-execute-ends (Action.LoadCodeStep d p up) image regs rec pc = in-rom image (wordAt regs rec (p .0)) pc
-execute-ends Action.External image regs rec pc = inr (omega arith, omega arith)
-execute-ends (Action.Jump cc to) image regs rec pc = inl refl
-execute-ends (Action.JumpPair p) image regs rec pc = goes-on (wordMapped (p .0)) pc
-execute-ends (Action.Call to) image regs rec pc = goes-on (pushAddress regs pc .ok) pc
-execute-ends (Action.CallPair p) image regs rec pc = goes-on (pushAddress regs pc .ok && wordMapped (p .0)) pc
-execute-ends Action.Return image regs rec pc = goes-on (wordMapped (spOf regs)) pc
-execute-ends Action.InterruptReturn image regs rec pc =
+execute-ends (Action.Pop d) n image regs rec pc = goes-on (placeOf regs rec d .ok && mappedOf (spOf regs)) pc
+execute-ends (Action.LoadCode d c) n image regs rec pc = in-rom image (codeAddress c regs rec) pc
+execute-ends (Action.LoadCodeStep d p up) n image regs rec pc = in-rom image (wordAt regs rec (p .0)) pc
+execute-ends Action.External n image regs rec pc = inr (omega arith, omega arith)
+execute-ends (Action.Jump cc to) n image regs rec pc = inl refl
+execute-ends (Action.JumpPair p) n image regs rec pc = goes-on (wordMapped (p .0)) pc
+execute-ends (Action.Call to) n image regs rec pc = goes-on (pushAddress regs pc .ok) pc
+execute-ends (Action.CallPair p) n image regs rec pc = goes-on (pushAddress regs pc .ok && wordMapped (p .0)) pc
+execute-ends Action.Return n image regs rec pc = goes-on (wordMapped (spOf regs)) pc
+execute-ends Action.InterruptReturn n image regs rec pc =
     let r = raised (storeOf regs flagsCell (loadOf regs rec (spOf regs))) 1 in
     goes-on (mappedOf (spOf regs) && wordMapped (spOf r)) pc
-execute-ends (Action.Carry change) image regs rec pc = inl refl
-execute-ends (Action.Interrupts on) image regs rec pc = inl refl
-execute-ends Action.Idle image regs rec pc = inl refl
-execute-ends Action.Stop image regs rec pc =
+execute-ends (Action.Carry change) n image regs rec pc = inl refl
+execute-ends (Action.Interrupts on) n image regs rec pc = inl refl
+execute-ends Action.Idle n image regs rec pc = inl refl
+execute-ends Action.Stop n image regs rec pc =
     pick-has Ends (eqb (getD regs stopconCell 0) 0xA5) (leaves pc Stopped 0) (leaves (romAddr 0x100) Running 0) (λ _. inl refl) (λ _. inl refl)
-execute-ends Action.Nop image regs rec pc = inl refl
+execute-ends Action.Nop n image regs rec pc = inl refl
 
 -- 0, or a number by which a step is refused
 abbrev pub StepNumber : ℕ → Type 0
@@ -101,10 +102,10 @@ module _ (s : State) where
       pick-has ActStops (eqb (e .next .stop) 0) _ _
       (λ _. record { number = inl refl; unchanged = λ ne. absurd (ne refl) }) (λ _. record { number = widened h; unchanged = λ _. refl })
 
-  decode-stops : (o : Outcome (Instruction × ℕ)) (image regs rec : List ℕ) → decodeAt image (s .pc .0) ≡ o
+  decode-stops : (o : Outcome (Instruction × ℕ × FlagSet)) (image regs rec : List ℕ) → decodeAt image (s .pc .0) ≡ o
       → ActStops (afterDecode o image s regs rec)
   unfolding afterDecode
-  decode-stops (value d) image regs rec e = finish-stops _ true _ (execute-ends _ image regs rec _)
+  decode-stops (value d) image regs rec e = finish-stops _ true _ (execute-ends _ _ image regs rec _)
   decode-stops (refused n) image regs rec e =
       let h = decode-number image (s .pc .0) n e in
       record { number = inr (inr (h .0, omega (arith, h .1))); unchanged = λ _. refl }

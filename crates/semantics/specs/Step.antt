@@ -12,6 +12,7 @@ use Rattle.base.specs.Choice.{pick}
 use Rattle.base.specs.Outcome.{Outcome}
 use Rattle.base.specs.Outcome.Outcome.{value, refused}
 use Rattle.base.specs.Lengths.{isImageLength, recordLength}
+use Rattle.isa.specs.declared.FlagSet.{FlagSet}
 use Rattle.isa.specs.declared.Instruction.{Instruction}
 use Rattle.isa.specs.Map.{cyclesOf}
 use Rattle.decode.specs.Decode.{decodeAt}
@@ -82,10 +83,10 @@ abbrev pub behind : RomAddr → ℕ → RomAddr
 behind pc n = romAddr ((pc .0 + n) % 65536)
 
 -- the instruction that was decoded at the program counter, on the registers after the requests
-unfoldable pub afterDecode : Outcome (Instruction × ℕ) → List ℕ → State → List ℕ → List ℕ → Acted
+unfoldable pub afterDecode : Outcome (Instruction × ℕ × FlagSet) → List ℕ → State → List ℕ → List ℕ → Acted
 afterDecode (value d) image s regs rec =
     let next = behind (s .pc) (d .1) in
-    finishOf s (executeOf (actionOf (d .0) next) image regs rec next) true (cyclesOf (getD image (s .pc .0) 0))
+    finishOf s (executeOf (actionOf (d .0) next) (d .2) image regs rec next) true (cyclesOf (getD image (s .pc .0) 0))
 afterDecode (refused n) image s regs rec = refusedAct s n
 
 unfoldable pub instructionAct : List ℕ → State → List ℕ → List ℕ → Acted

@@ -21,10 +21,17 @@ fn after_decode(d: Decoded, image: &[u8], s: Core, regs: &mut Registers, rec: &I
     ensures { λ r. ⌜ ((saved : List ℕ) → rebuilt saved (now (regs .exit)) r ≡ afterDecode (decoded d) (now (image .entry)) (stateWith saved s) (now (regs .entry)) (now (rec .entry))) ⌝ }
 {
     match d {
-        Decoded::Found(i, n) => {
+        Decoded::Found(i, n, names) => {
             let pc = s.pc;
             let behind = RomAddr(std::num::wrapping_add_u16(pc.0, n as u16));
-            let next = execute::execute(action::action_of(i, behind), image, regs, rec, behind);
+            let next = execute::execute(
+                action::action_of(i, behind),
+                names,
+                image,
+                regs,
+                rec,
+                behind,
+            );
             let first = base::byte_at(image, pc.0 as usize);
             entry::finish(s, next, true, opcode_words::cycles(first))
         }

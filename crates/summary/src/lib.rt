@@ -1,10 +1,10 @@
-// The effect summary of an action.
+// The effect summary of an action and the flags that it names.
 ghost use mathlib.Core.Path.{_≡_};
-ghost use Rattle.certificate.specs.Summaries.{writeTo, binaryValue, binaryFlags, binarySummary, modifyValue, modifyFlags, loadSummary};
+ghost use Rattle.certificate.specs.Summaries.{writeTo, binaryValue, flagEffect, binaryFlags, binarySummary, modifyValue, loadSummary};
 ghost use Rattle.certificate.specs.Summaries.{codeAccess, onward, summaryOf};
 ghost use Rattle.isa.specs.declared.Alu.the-variants.{And, Cp};
-ghost use Rattle.certificate.specs.declared.FlagEffect.the-variants.{Kept};
-ghost use Rattle.certificate.specs.declared.StackEffect.the-variants.{Same};
+ghost use Rattle.certificate.specs.declared.NewValue.the-variants.{Unknown};
+ghost use Rattle.certificate.specs.declared.StackEffect.the-variants.{Same, Push, Pop};
 use action::Action;
 use action::CodeAddress;
 use action::Operand;
@@ -20,6 +20,7 @@ use certificate::StackEffect;
 use certificate::Summary;
 use certificate::Write;
 use isa::Alu;
+use isa::FlagSet;
 use isa::Unary;
 
 fn write_to(d: Operand, v: NewValue) -> Write
@@ -58,15 +59,15 @@ fn moving(w: Write, f: Access, s: Access, g: FlagEffect, k: StackEffect) -> Summ
     }
 }
 
-fn reaching(w: Write, c: CodeAccess) -> Summary
-    ensures { λ r. ⌜ r ≡ Rattle.certificate.specs.Summaries.reaching w c ⌝ }
+fn reaching(w: Write, c: CodeAccess, g: FlagEffect) -> Summary
+    ensures { λ r. ⌜ r ≡ Rattle.certificate.specs.Summaries.reaching w c g ⌝ }
 {
     Summary {
         write: w,
         first: Access::Nothing,
         second: Access::Nothing,
         code: c,
-        flags: FlagEffect::Kept,
+        flags: g,
         stack: StackEffect::Same,
         control: Control::Nothing,
         flow: Flow::Step(0, RomAddr(0)),
@@ -135,6 +136,13 @@ fn binary_value(op: Alu, s: Operand) -> NewValue
     }
 }
 
+// As before where no flag is named, else g.
+fn flag_effect(names: FlagSet, g: FlagEffect) -> FlagEffect
+    ensures { λ r. ⌜ r ≡ flagEffect names g ⌝ }
+{
+    if names.0 == 0 { FlagEffect::Kept } else { g }
+}
+
 // `CP cell,#k` (A6H) leaves a compare.
 fn compare_flags(d: Operand, s: Operand) -> FlagEffect
     ensures { λ r. ⌜ r ≡ binaryFlags Cp d s ⌝ }
@@ -168,20 +176,15 @@ fn binary_flags(op: Alu, d: Operand, s: Operand) -> FlagEffect
 }
 
 // CP, TM and TCM read both operands and store nothing.
-fn binary_summary(stored: bool, op: Alu, d: Operand, s: Operand) -> Summary
-    ensures { λ r. ⌜ r ≡ binarySummary stored op d s ⌝ }
+fn binary_summary(stored: bool, op: Alu, d: Operand, s: Operand, names: FlagSet) -> Summary
+    ensures { λ r. ⌜ r ≡ binarySummary stored op d s names ⌝ }
 {
     if stored {
         let w = write_to(d, binary_value(op, s));
-        return moving(
-            w,
-            Access::Nothing,
-            reading(s),
-            FlagEffect::Changed,
-            StackEffect::Same,
-        );
+        let f = flag_effect(names, FlagEffect::Changed);
+        return moving(w, Access::Nothing, reading(s), f, StackEffect::Same);
     }
-    let g = binary_flags(op, d, s);
+    let g = flag_effect(names, binary_flags(op, d, s));
     moving(Write::Nothing, reading(d), reading(s), g, StackEffect::Same)
 }
 
@@ -201,47 +204,26 @@ fn modify_value(op: Unary) -> NewValue
     }
 }
 
-// CLR changes no flag.
-fn modify_flags(op: Unary) -> FlagEffect
-    ensures { λ r. ⌜ r ≡ modifyFlags op ⌝ }
-{
-    match op {
-        Unary::Dec => FlagEffect::Changed,
-        Unary::Rlc => FlagEffect::Changed,
-        Unary::Inc => FlagEffect::Changed,
-        Unary::Com => FlagEffect::Changed,
-        Unary::Rl => FlagEffect::Changed,
-        Unary::Clr => FlagEffect::Kept,
-        Unary::Rrc => FlagEffect::Changed,
-        Unary::Sra => FlagEffect::Changed,
-        Unary::Rr => FlagEffect::Changed,
-    }
-}
-
-fn modify_summary(op: Unary, d: Operand) -> Summary
-    ensures { λ r. ⌜ r ≡ summaryOf (Action.Modify op d) ⌝ }
+fn modify_summary(op: Unary, d: Operand, g: FlagEffect) -> Summary
+    ensures { λ r. ⌜ r ≡ Rattle.certificate.specs.Summaries.into d (Rattle.certificate.specs.Summaries.moving (writeTo d (modifyValue op)) Access.Nothing Access.Nothing g Same) ⌝ }
 {
     let w = write_to(d, modify_value(op));
-    let s = moving(
-        w,
-        Access::Nothing,
-        Access::Nothing,
-        modify_flags(op),
-        StackEffect::Same,
-    );
-    into(d, s)
+    into(
+        d,
+        moving(w, Access::Nothing, Access::Nothing, g, StackEffect::Same),
+    )
 }
 
 // LD of a register with a number; of SP: the stack pointer is loaded.
-fn load_number(a: RegAddr, n: u8) -> Summary
-    ensures { λ r. ⌜ r ≡ loadSummary (Operand.Register a) (Operand.Immediate n) ⌝ }
+fn load_number(a: RegAddr, n: u8, g: FlagEffect) -> Summary
+    ensures { λ r. ⌜ r ≡ loadSummary (Operand.Register a) (Operand.Immediate n) g ⌝ }
 {
     if a.0 == base::SP {
         return moving(
             Write::Nothing,
             Access::Nothing,
             Access::Nothing,
-            FlagEffect::Kept,
+            g,
             StackEffect::Load(n),
         );
     }
@@ -249,34 +231,36 @@ fn load_number(a: RegAddr, n: u8) -> Summary
         Write::Register(a, NewValue::Number(n)),
         Access::Nothing,
         Access::Nothing,
-        FlagEffect::Kept,
+        g,
         StackEffect::Same,
     )
 }
 
 // LD that moves a byte.
-fn load_from(w: Write, s: Access) -> Summary
-    ensures { λ r. ⌜ r ≡ Rattle.certificate.specs.Summaries.moving w Access.Nothing s Kept Same ⌝ }
+fn load_from(w: Write, s: Access, g: FlagEffect) -> Summary
+    ensures { λ r. ⌜ r ≡ Rattle.certificate.specs.Summaries.moving w Access.Nothing s g Same ⌝ }
 {
-    moving(w, Access::Nothing, s, FlagEffect::Kept, StackEffect::Same)
+    moving(w, Access::Nothing, s, g, StackEffect::Same)
 }
 
-fn load_summary(d: Operand, s: Operand) -> Summary
-    ensures { λ r. ⌜ r ≡ loadSummary d s ⌝ }
+fn load_summary(d: Operand, s: Operand, g: FlagEffect) -> Summary
+    ensures { λ r. ⌜ r ≡ loadSummary d s g ⌝ }
 {
     match d {
         Operand::Register(a) => match s {
-            Operand::Immediate(n) => load_number(a, n),
+            Operand::Immediate(n) => load_number(a, n, g),
             Operand::Register(b) => load_from(
                 Write::Register(a, NewValue::CopyOf(b)),
                 Access::Register(b),
+                g,
             ),
             Operand::Indirect(p, x) => load_from(
                 Write::Register(a, NewValue::Unknown),
                 Access::Pointed(p, x),
+                g,
             ),
         },
-        Operand::Indirect(q, y) => load_from(Write::Pointed(q, y), reading(s)),
+        Operand::Indirect(q, y) => load_from(Write::Pointed(q, y), reading(s), g),
         Operand::Immediate(_) => forbidden(),
     }
 }
@@ -311,11 +295,11 @@ fn switching(on: bool) -> Control
     }
 }
 
-// A summary of control alone that changes no flag.
-fn going(to: Flow) -> Summary
-    ensures { λ r. ⌜ r ≡ Rattle.certificate.specs.Summaries.controlling Kept Control.Nothing to ⌝ }
+// A summary of control alone that goes somewhere.
+fn going(to: Flow, g: FlagEffect) -> Summary
+    ensures { λ r. ⌜ r ≡ Rattle.certificate.specs.Summaries.controlling g Control.Nothing to ⌝ }
 {
-    controlling(FlagEffect::Kept, Control::Nothing, to)
+    controlling(g, Control::Nothing, to)
 }
 
 // A summary of an instruction that does no more than change the flags or the interrupts.
@@ -325,64 +309,66 @@ fn plain(g: FlagEffect, c: Control) -> Summary
     controlling(g, c, Flow::Step(0, RomAddr(0)))
 }
 
-fn push_summary(s: Operand) -> Summary
-    ensures { λ r. ⌜ r ≡ summaryOf (Action.Push s) ⌝ }
+fn push_summary(s: Operand, g: FlagEffect) -> Summary
+    ensures { λ r. ⌜ r ≡ Rattle.certificate.specs.Summaries.moving Write.Nothing Access.Nothing (Rattle.certificate.specs.Summaries.reading s) g Push ⌝ }
 {
     moving(
         Write::Nothing,
         Access::Nothing,
         reading(s),
-        FlagEffect::Kept,
+        g,
         StackEffect::Push,
     )
 }
 
-fn pop_summary(d: Operand) -> Summary
-    ensures { λ r. ⌜ r ≡ summaryOf (Action.Pop d) ⌝ }
+fn pop_summary(d: Operand, g: FlagEffect) -> Summary
+    ensures { λ r. ⌜ r ≡ Rattle.certificate.specs.Summaries.into d (Rattle.certificate.specs.Summaries.moving (writeTo d Unknown) Access.Nothing Access.Nothing g Pop) ⌝ }
 {
     let w = write_to(d, NewValue::Unknown);
-    let s = moving(
-        w,
-        Access::Nothing,
-        Access::Nothing,
-        FlagEffect::Kept,
-        StackEffect::Pop,
-    );
-    into(d, s)
+    into(
+        d,
+        moving(w, Access::Nothing, Access::Nothing, g, StackEffect::Pop),
+    )
 }
 
-fn operation_summary(op: Alu, d: Operand, s: Operand) -> Summary
-    ensures { λ r. ⌜ r ≡ summaryOf (Action.Binary op d s) ⌝ }
+fn operation_summary(op: Alu, d: Operand, s: Operand, names: FlagSet) -> Summary
+    ensures { λ r. ⌜ r ≡ summaryOf (Action.Binary op d s) names ⌝ }
 {
-    into(d, binary_summary(alu::stores(op), op, d, s))
+    into(d, binary_summary(alu::stores(op), op, d, s, names))
 }
 
-// The effect summary of an action.
-pub fn summary_of(action: Action) -> Summary
-    ensures { λ r. ⌜ r ≡ summaryOf action ⌝ }
+// The effect summary of an action and the flags that it names.
+pub fn summary_of(action: Action, names: FlagSet) -> Summary
+    ensures { λ r. ⌜ r ≡ summaryOf action names ⌝ }
 {
+    let g = flag_effect(names, FlagEffect::Changed);
     match action {
-        Action::Binary(op, d, s) => operation_summary(op, d, s),
-        Action::Modify(op, d) => modify_summary(op, d),
-        Action::Load(d, s) => load_summary(d, s),
-        Action::Push(s) => push_summary(s),
-        Action::Pop(d) => pop_summary(d),
-        Action::LoadCode(d, c) => reaching(Write::Register(d, NewValue::Unknown), code_access(c)),
+        Action::Binary(op, d, s) => operation_summary(op, d, s, names),
+        Action::Modify(op, d) => modify_summary(op, d, g),
+        Action::Load(d, s) => load_summary(d, s, g),
+        Action::Push(s) => push_summary(s, g),
+        Action::Pop(d) => pop_summary(d, g),
+        Action::LoadCode(d, c) => reaching(
+            Write::Register(d, NewValue::Unknown),
+            code_access(c),
+            g,
+        ),
         Action::LoadCodeStep(d, p, _) => reaching(
             Write::RegisterAndPair(d, p),
             CodeAccess::Pair(p, 0, 0),
+            g,
         ),
         Action::External => forbidden(),
-        Action::Jump(cc, to) => going(Flow::Step(cc, to)),
+        Action::Jump(cc, to) => going(Flow::Step(cc, to), g),
         Action::JumpPair(_) => forbidden(),
-        Action::Call(to) => going(Flow::Call(to)),
+        Action::Call(to) => going(Flow::Call(to), g),
         Action::CallPair(_) => forbidden(),
-        Action::Return => going(Flow::Return),
-        Action::InterruptReturn => going(Flow::InterruptReturn),
-        Action::Carry(_) => plain(FlagEffect::Changed, Control::Nothing),
-        Action::Interrupts(on) => plain(FlagEffect::Kept, switching(on)),
-        Action::Idle => plain(FlagEffect::Kept, Control::Wait),
+        Action::Return => going(Flow::Return, g),
+        Action::InterruptReturn => going(Flow::InterruptReturn, g),
+        Action::Carry(_) => plain(g, Control::Nothing),
+        Action::Interrupts(on) => plain(g, switching(on)),
+        Action::Idle => plain(g, Control::Wait),
         Action::Stop => forbidden(),
-        Action::Nop => plain(FlagEffect::Kept, Control::Nothing),
+        Action::Nop => plain(g, Control::Nothing),
     }
 }

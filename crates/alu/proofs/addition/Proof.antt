@@ -35,12 +35,16 @@ add-overflows-2 c = search needs
 overflows-requires : tie.Need-overflows-requires
 overflows-requires c κs = search needs
 
+flags-byte-requires : tie.Need-flags-byte-requires
+flags-byte-requires c κs = search needs
+
 returns : tie.Need-returns
 unfolding addition
 returns c =
-    let p = c .before .before .before .before .before .args in
-    let value : c .before .before .before .wrapping-add-u82 .result ≡ (p .x + p .y + p .k) % 256 = omega arith in
-    simp (c .overflows .ensures, c .before .biased2 .ensures .0, c .before .before .biased .ensures .0, value)
+    let o = c .before in
+    let p = o .before .before .before .before .before .args in
+    let value : o .before .before .before .wrapping-add-u82 .result ≡ (p .x + p .y + p .k) % 256 = omega arith in
+    simp (c .flags-byte .ensures, o .overflows .ensures, o .before .biased2 .ensures .0, o .before .before .biased .ensures .0, value)
 
 pub addition-spec : {M : Type 1} → statement M
 addition-spec =
@@ -55,4 +59,5 @@ addition-spec =
     add-overflows
     add-overflows-2
     overflows-requires
+    flags-byte-requires
     returns)

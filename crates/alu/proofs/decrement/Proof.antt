@@ -10,11 +10,15 @@ use Rattle.alu.proofs.decrement.Tie as tie
 wrapping-sub-u8-requires : tie.Need-wrapping-sub-u8-requires
 wrapping-sub-u8-requires c κs = search needs
 
+flags-byte-requires : tie.Need-flags-byte-requires
+flags-byte-requires c κs = search needs
+
 returns : tie.Need-returns
 unfolding decrement
 returns c =
-    let e = wrap-down-8 (c .before .args .x) (c .wrapping-sub-u8 .result) (omega (arith, c .wrapping-sub-u8 .ok)) (c .wrapping-sub-u8 .ensures) in
-    simp e
+    let o = c .before in
+    let e = wrap-down-8 (o .before .args .x) (o .wrapping-sub-u8 .result) (omega (arith, o .wrapping-sub-u8 .ok)) (o .wrapping-sub-u8 .ensures) in
+    simp (c .flags-byte .ensures, e)
 
 pub decrement-spec : {M : Type 1} → statement M
-decrement-spec = tie.close (tie.spec wrapping-sub-u8-requires returns)
+decrement-spec = tie.close (tie.spec wrapping-sub-u8-requires flags-byte-requires returns)

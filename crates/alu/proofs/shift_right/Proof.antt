@@ -1,6 +1,5 @@
 -- Half of the byte with its bit 7 kept is the definition's value.
 -- Assumes nothing.
-use mathlib.Core.Path.{refl}
 use borrow.Author.Needs.{needs}
 use Rattle.alu.specs.Operations.{shiftRight}
 use Rattle.alu.proofs.shift_right.Statement.{statement}
@@ -12,9 +11,12 @@ mul-value c = search needs
 add-value : tie.Need-add-value
 add-value c = search needs
 
+flags-byte-requires : tie.Need-flags-byte-requires
+flags-byte-requires c κs = search needs
+
 returns : tie.Need-returns
 unfolding shiftRight
-returns c = refl
+returns c = simp (c .flags-byte .ensures)
 
 pub shift-right-spec : {M : Type 1} → statement M
-shift-right-spec = tie.close (tie.spec mul-value add-value returns)
+shift-right-spec = tie.close (tie.spec mul-value add-value flags-byte-requires returns)

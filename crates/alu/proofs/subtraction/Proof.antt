@@ -35,12 +35,16 @@ sub-overflows c = search needs
 overflows-requires : tie.Need-overflows-requires
 overflows-requires c κs = search needs
 
+flags-byte-requires : tie.Need-flags-byte-requires
+flags-byte-requires c κs = search needs
+
 returns : tie.Need-returns
 unfolding subtraction
 returns c =
-    let p = c .before .before .before .before .before .args in
-    let first = c .before .before .before .before .wrapping-sub-u8 in
-    let second = c .before .before .before .wrapping-sub-u82 in
+    let o = c .before in
+    let p = o .before .before .before .before .before .args in
+    let first = o .before .before .before .before .wrapping-sub-u8 in
+    let second = o .before .before .before .wrapping-sub-u82 in
     let hx : p .x < 256 = search needs in
     let hy : p .y < 256 = search needs in
     let hk : p .k < 256 = search needs in
@@ -48,8 +52,8 @@ returns c =
     let hs : second .result < 256 = omega (arith, second .ok) in
     let e = wrap-sub-8 (p .x) (p .y) (first .result) hx hy hf (first .ensures) in
     let f = wrap-sub-8 (first .result) (p .k) (second .result) hf hk hs (second .ensures) in
-    let d = wrap-sub-two-8 (p .x) (p .y) (p .k) hx hy (c .before .before .before .before .before .pre) in
-    simp (c .overflows .ensures, c .before .biased2 .ensures .0, c .before .before .biased .ensures .0, f, e, d)
+    let d = wrap-sub-two-8 (p .x) (p .y) (p .k) hx hy (o .before .before .before .before .before .pre) in
+    simp (c .flags-byte .ensures, o .overflows .ensures, o .before .biased2 .ensures .0, o .before .before .biased .ensures .0, f, e, d)
 
 pub subtraction-spec : {M : Type 1} → statement M
 subtraction-spec =
@@ -64,4 +68,5 @@ subtraction-spec =
     add-overflows-2
     sub-overflows
     overflows-requires
+    flags-byte-requires
     returns)

@@ -19,11 +19,11 @@ column6 c = let m = c .match .rest in simp (ne-eqb _ _ (m .1), ne-eqb _ _ (m .0 
 call-at-requires : tie.Need-call-at-requires
 call-at-requires c κs = search needs
 
-mul-t38 : tie.Need-mul-t38
-mul-t38 c = search needs
+mul-t41 : tie.Need-mul-t41
+mul-t41 c = search needs
 
-add-t40 : tie.Need-add-t40
-add-t40 c = search needs
+add-t43 : tie.Need-add-t43
+add-t43 c = search needs
 
 returns : tie.Need-returns
 returns c = rw (c .before .match .keys1, c .match2 .keys1)
@@ -78,8 +78,8 @@ other-form-spec =
     tie.close
     (tie.spec
     call-at-requires
-    mul-t38
-    add-t40
+    mul-t41
+    add-t43
     returns
     returns-2
     returns-3

@@ -6,6 +6,9 @@ use borrow.Author.Needs.{needs}
 use Rattle.columns.proofs.unary_column.Statement.{statement}
 use Rattle.columns.proofs.unary_column.Tie as tie
 
+unary-names-requires : tie.Need-unary-names-requires
+unary-names-requires c κs = search needs
+
 unary-row-requires : tie.Need-unary-row-requires
 unary-row-requires c κs = search needs
 
@@ -25,10 +28,10 @@ jump-at-requires : tie.Need-jump-at-requires
 jump-at-requires c κs = search needs
 
 returns : tie.Need-returns
-returns c = rw (sym (c .before .before .before .before .unary-row .ensures) ∙ c .before .before .u .given .1, eq-eqb _ _ (c .if1 .taken))
+returns c = rw (c .before .unary-names .ensures, sym (c .before .before .before .before .before .unary-row .ensures) ∙ c .before .before .before .u .given .1, eq-eqb _ _ (c .if1 .taken))
 
 returns-2 : tie.Need-returns-2
-returns-2 c = rw (sym (c .before .before .before .before .unary-row .ensures) ∙ c .before .before .u .given .1, ne-eqb _ _ (c .if1 .left))
+returns-2 c = rw (c .before .unary-names .ensures, sym (c .before .before .before .before .before .unary-row .ensures) ∙ c .before .before .before .u .given .1, ne-eqb _ _ (c .if1 .left))
 
 returns-3 : tie.Need-returns-3
 returns-3 c = rw (sym (c .before .before .before .unary-row .ensures) ∙ c .before .enum-told .given .1, eq-eqb _ _ (c .if2 .taken))
@@ -62,6 +65,7 @@ unary-column-spec =
     (tie.spec
     unary-row-requires
     enum-known-u
+    unary-names-requires
     enum-told
     enum-told-2
     enum-told-3

@@ -1,6 +1,6 @@
 -- Each arm is the form of column 7's cell in that row; the rest are empty.
 -- Assumes nothing.
-use Rattle.columns.specs.Form.{formOf}
+use Rattle.columns.specs.Form.{answerOf}
 use Rattle.isa.specs.Map.Cell.{empty}
 use Rattle.isa.specs.Map.{Cell, column7Rows}
 use mathlib.Core.Path.{ap, sym}
@@ -40,7 +40,7 @@ returns-8 : tie.Need-returns-8
 returns-8 c = rw (c .match .keys8)
 
 returns-9 : tie.Need-returns-9
-returns-9 c = let a = c .before .args in ap (λ (x : Cell). formOf x (a .row) (a .b1) (a .b2) (a .b3)) (sym (choose-miss (a .row) column7Rows empty (c .match .rest)))
+returns-9 c = let a = c .before .args in ap (λ (x : Cell). answerOf x (a .row) (a .b1) (a .b2) (a .b3)) (sym (choose-miss (a .row) column7Rows empty (c .match .rest)))
 
 pub column-7-spec : {M : Type 1} → statement M
 column-7-spec =

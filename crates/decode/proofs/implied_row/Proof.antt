@@ -1,8 +1,8 @@
 -- Each arm is column F's cell in that row; the rest are empty.
 -- Assumes nothing.
 use Rattle.isa.specs.Map.Cell.{empty}
-use Rattle.isa.specs.Map.{columnFRows}
-use mathlib.Core.Path.{sym}
+use Rattle.isa.specs.Map.{Cell, columnFRows, cellNames}
+use mathlib.Core.Path.{ap, sym}
 use Rattle.base.specs.ChoiceLaws.{choose-miss}
 use Rattle.decode.proofs.implied_row.Statement.{statement}
 use Rattle.decode.proofs.implied_row.Tie as tie
@@ -38,7 +38,7 @@ returns-10 : tie.Need-returns-10
 returns-10 c = rw (c .match .keys10)
 
 returns-11 : tie.Need-returns-11
-returns-11 c = sym (choose-miss (c .before .args .row) columnFRows empty (c .match .rest))
+returns-11 c = ap (λ (x : Cell). (x, cellNames x)) (sym (choose-miss (c .before .args .row) columnFRows empty (c .match .rest)))
 
 pub implied-row-spec : {M : Type 1} → statement M
 implied-row-spec =

@@ -1,6 +1,6 @@
 -- Each arm is the form of that column's cell, the same in every row; the last one is column E's.
 -- Assumes nothing.
-use Rattle.columns.specs.Form.{formOf}
+use Rattle.columns.specs.Form.{answerOf}
 use Rattle.isa.specs.Map.Cell.{incWork}
 use Rattle.isa.specs.Map.{Cell, rowColumns}
 use mathlib.Core.Path.{ap, sym}
@@ -9,11 +9,11 @@ use borrow.Author.Needs.{needs}
 use Rattle.decode.proofs.row_column.Statement.{statement}
 use Rattle.decode.proofs.row_column.Tie as tie
 
-mul-t14 : tie.Need-mul-t14
-mul-t14 c = search needs
+mul-t18 : tie.Need-mul-t18
+mul-t18 c = search needs
 
-add-t16 : tie.Need-add-t16
-add-t16 c = search needs
+add-t20 : tie.Need-add-t20
+add-t20 c = search needs
 
 returns : tie.Need-returns
 returns c = rw (c .match .keys1)
@@ -34,9 +34,9 @@ returns-6 : tie.Need-returns-6
 returns-6 c = rw (c .match .keys6)
 
 returns-7 : tie.Need-returns-7
-returns-7 c = let a = c .before .args in ap (λ (x : Cell). formOf x (a .row) (a .b1) (a .b2) (a .b3)) (sym (choose-miss (a .low) rowColumns incWork (c .match .rest)))
+returns-7 c = let a = c .before .args in ap (λ (x : Cell). answerOf x (a .row) (a .b1) (a .b2) (a .b3)) (sym (choose-miss (a .low) rowColumns incWork (c .match .rest)))
 
 pub row-column-spec : {M : Type 1} → statement M
 row-column-spec =
     tie.close
-    (tie.spec mul-t14 add-t16 returns returns-2 returns-3 returns-4 returns-5 returns-6 returns-7)
+    (tie.spec mul-t18 add-t20 returns returns-2 returns-3 returns-4 returns-5 returns-6 returns-7)

@@ -13,6 +13,9 @@ carry-requires c κs = search needs
 carry-changed-requires : tie.Need-carry-changed-requires
 carry-changed-requires c κs = search needs
 
+flags-byte-requires : tie.Need-flags-byte-requires
+flags-byte-requires c κs = search needs
+
 with-flags-requires : tie.Need-with-flags-requires
 with-flags-requires c κs = search needs
 
@@ -21,7 +24,15 @@ goes-on-requires c κs = search needs
 
 returns : tie.Need-returns
 unfolding carryOf
-returns c = (simp (c .before .with-flags .ensures, c .before .before .carry-changed .ensures, c .before .before .before .before .carry .ensures), simp (c .goes-on .ensures))
+returns c = (
+  simp (
+    c .before .with-flags .ensures,
+    c .before .before .flags-byte .ensures,
+    c .before .before .before .before .carry-changed .ensures,
+    c .before .before .before .before .before .carry .ensures,
+  ),
+  simp (c .goes-on .ensures),
+)
 
 pub change-carry-spec : {M : Type 1} → statement M
 change-carry-spec =
@@ -30,6 +41,7 @@ change-carry-spec =
     element-copy-out-carry
     carry-requires
     carry-changed-requires
+    flags-byte-requires
     with-flags-requires
     goes-on-requires
     returns)

@@ -49,6 +49,9 @@ load-code-step-requires c κs = search needs
 enum-told : tie.Need-enum-told
 enum-told c = search needs
 
+external-requires : tie.Need-external-requires
+external-requires c κs = search needs
+
 enum-known-action-8 : tie.Need-enum-known-action-8
 enum-known-action-8 c = search needs
 
@@ -142,7 +145,7 @@ returns-7 c = (simp (c .load-code-step .ensures .0, c .before .before .before .a
 
 returns-8 : tie.Need-returns-8
 unfolding executeOf
-returns-8 c = (simp (c .enum-told .given .1), simp (c .enum-told .given .1))
+returns-8 c = (simp (c .before .enum-told .given .1), simp (c .external .ensures, c .before .enum-told .given .1))
 
 returns-9 : tie.Need-returns-9
 unfolding executeOf jumpOf
@@ -207,6 +210,7 @@ execute-spec =
     enum-known-action-7
     load-code-step-requires
     enum-told
+    external-requires
     enum-known-action-8
     jump-requires
     enum-known-action-9

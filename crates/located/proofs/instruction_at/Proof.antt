@@ -1,6 +1,7 @@
 -- An instruction is located by what the decoder answers at the address, case by case.
 use Rattle.base.specs.Outcome.{Outcome}
 use Rattle.isa.specs.Answer.{decoded}
+use Rattle.isa.specs.declared.FlagSet.{FlagSet}
 use Rattle.isa.specs.declared.Instruction.{Instruction}
 use Rattle.isa.specs.declared.Decoded.{Decoded}
 use Prim.Native.Nat.{ℕ}
@@ -42,9 +43,9 @@ no-instruction-requires-3 : tie.Need-no-instruction-requires-3
 no-instruction-requires-3 c κs = search needs
 
 -- from what the decoder answered, to what it answers by its definition
-located : (a : ℕ) {d e : Decoded} {o : Outcome (Instruction × ℕ)} → d ≡ e → decoded d ≡ o → locatedIn (decoded e) a ≡ locatedIn o a
+located : (a : ℕ) {d e : Decoded} {o : Outcome (Instruction × ℕ × FlagSet)} → d ≡ e → decoded d ≡ o → locatedIn (decoded e) a ≡ locatedIn o a
 located a {d} {e} {o} p q =
-    ap (λ (d : Decoded). locatedIn (decoded d) a) (sym p) ∙ ap (λ (o : Outcome (Instruction × ℕ)). locatedIn o a) q
+    ap (λ (d : Decoded). locatedIn (decoded d) a) (sym p) ∙ ap (λ (o : Outcome (Instruction × ℕ × FlagSet)). locatedIn o a) q
 
 returns : tie.Need-returns
 returns c =

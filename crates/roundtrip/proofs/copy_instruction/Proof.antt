@@ -62,7 +62,7 @@ returns-2 c =
     let b = room .before .before .before .before in
     let e = read b _ (room .before .before .i .given .1) in
     let byte = b .before .before .shared-slice-known .given in
-    let same = re-encoded (bytes b) (place b) (λ k. byte k .fits) _ _ (now (b .before .before .before .args .out)) (sym e) .1 in
+    let same = re-encoded (bytes b) (place b) (λ k. byte k .fits) _ _ _ (now (b .before .before .before .args .out)) (sym e) .1 in
     rw (← e, le-ltb _ _ (room .if1 .left)) (refl, c .before .before .encode .ensures .1 ∙ rw (le-ltb _ _ (room .if1 .left)) at same)
 
 returns-3 : tie.Need-returns-3

@@ -9,6 +9,9 @@ binary-value-requires c κs = search needs
 write-to-requires : tie.Need-write-to-requires
 write-to-requires c κs = search needs
 
+flag-effect-requires : tie.Need-flag-effect-requires
+flag-effect-requires c κs = search needs
+
 reading-requires : tie.Need-reading-requires
 reading-requires c κs = search needs
 
@@ -17,11 +20,15 @@ moving-requires c κs = search needs
 
 returns : tie.Need-returns
 returns c =
-    let b = c .before .before .before in
-    simp (c .moving .ensures, c .before .reading .ensures, c .before .before .write-to .ensures, b .binary-value .ensures, b .before .if1 .taken)
+    let f = c .before .before in
+    let b = f .before .before in
+    simp (c .moving .ensures, c .before .reading .ensures, f .flag-effect .ensures, f .before .write-to .ensures, b .binary-value .ensures, b .before .if1 .taken)
 
 binary-flags-requires : tie.Need-binary-flags-requires
 binary-flags-requires c κs = search needs
+
+flag-effect-requires-2 : tie.Need-flag-effect-requires-2
+flag-effect-requires-2 c κs = search needs
 
 reading-requires-2 : tie.Need-reading-requires-2
 reading-requires-2 c κs = search needs
@@ -34,8 +41,9 @@ moving-requires-2 c κs = search needs
 
 returns-2 : tie.Need-returns-2
 returns-2 c =
-    let b = c .before .before .before in
-    simp (c .moving2 .ensures, c .before .reading3 .ensures, c .before .before .reading2 .ensures, b .binary-flags .ensures, b .before .if1 .left)
+    let f = c .before .before .before in
+    let b = f .before in
+    simp (c .moving2 .ensures, c .before .reading3 .ensures, c .before .before .reading2 .ensures, f .flag-effect2 .ensures, b .binary-flags .ensures, b .before .if1 .left)
 
 pub binary-summary-spec : {M : Type 1} → statement M
 binary-summary-spec =
@@ -43,10 +51,12 @@ binary-summary-spec =
     (tie.spec
     binary-value-requires
     write-to-requires
+    flag-effect-requires
     reading-requires
     moving-requires
     returns
     binary-flags-requires
+    flag-effect-requires-2
     reading-requires-2
     reading-requires-3
     moving-requires-2

@@ -1,5 +1,4 @@
 -- What a one-operand instruction stores and leaves in FLAGS.
-use Rattle.certificate.specs.Summaries.{summaryOf}
 use borrow.Author.Needs.{needs}
 use Rattle.summary.proofs.modify_summary.Statement.{statement}
 use Rattle.summary.proofs.modify_summary.Tie as tie
@@ -10,9 +9,6 @@ modify-value-requires c κs = search needs
 write-to-requires : tie.Need-write-to-requires
 write-to-requires c κs = search needs
 
-modify-flags-requires : tie.Need-modify-flags-requires
-modify-flags-requires c κs = search needs
-
 moving-requires : tie.Need-moving-requires
 moving-requires c κs = search needs
 
@@ -20,10 +16,9 @@ into-requires : tie.Need-into-requires
 into-requires c κs = search needs
 
 returns : tie.Need-returns
-unfolding summaryOf
 returns c =
-    let b = c .before .before .before in
-    simp (c .into .ensures, c .before .moving .ensures, c .before .before .modify-flags .ensures, b .write-to .ensures, b .before .modify-value .ensures)
+    let b = c .before .before in
+    simp (c .into .ensures, c .before .moving .ensures, b .write-to .ensures, b .before .modify-value .ensures)
 
 pub modify-summary-spec : {M : Type 1} → statement M
 modify-summary-spec =
@@ -31,7 +26,6 @@ modify-summary-spec =
     (tie.spec
     modify-value-requires
     write-to-requires
-    modify-flags-requires
     moving-requires
     into-requires
     returns)

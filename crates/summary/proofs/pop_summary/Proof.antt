@@ -1,5 +1,4 @@
 -- POP stores an unknown byte and raises SP.
-use Rattle.certificate.specs.Summaries.{summaryOf}
 use borrow.Author.Needs.{needs}
 use Rattle.summary.proofs.pop_summary.Statement.{statement}
 use Rattle.summary.proofs.pop_summary.Tie as tie
@@ -14,7 +13,6 @@ into-requires : tie.Need-into-requires
 into-requires c κs = search needs
 
 returns : tie.Need-returns
-unfolding summaryOf
 returns c = simp (c .into .ensures, c .before .moving .ensures, c .before .before .write-to .ensures)
 
 pub pop-summary-spec : {M : Type 1} → statement M

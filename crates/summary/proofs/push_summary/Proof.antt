@@ -1,5 +1,4 @@
 -- PUSH reads its operand and lowers SP.
-use Rattle.certificate.specs.Summaries.{summaryOf}
 use borrow.Author.Needs.{needs}
 use Rattle.summary.proofs.push_summary.Statement.{statement}
 use Rattle.summary.proofs.push_summary.Tie as tie
@@ -11,7 +10,6 @@ moving-requires : tie.Need-moving-requires
 moving-requires c κs = search needs
 
 returns : tie.Need-returns
-unfolding summaryOf
 returns c = simp (c .moving .ensures, c .before .reading .ensures)
 
 pub push-summary-spec : {M : Type 1} → statement M

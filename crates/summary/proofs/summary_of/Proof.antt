@@ -4,6 +4,9 @@ use borrow.Author.Needs.{needs}
 use Rattle.summary.proofs.summary_of.Statement.{statement}
 use Rattle.summary.proofs.summary_of.Tie as tie
 
+flag-effect-requires : tie.Need-flag-effect-requires
+flag-effect-requires c κs = search needs
+
 enum-known-action : tie.Need-enum-known-action
 enum-known-action c = search needs
 
@@ -130,27 +133,27 @@ returns c = simp (c .operation-summary .ensures, c .before .before .action .give
 
 returns-2 : tie.Need-returns-2
 unfolding summaryOf
-returns-2 c = simp (c .modify-summary .ensures, c .before .before .action2 .given .1)
+returns-2 c = simp (c .modify-summary .ensures, c .before .before .action2 .given .1, c .before .before .before .before .flag-effect .ensures)
 
 returns-3 : tie.Need-returns-3
 unfolding summaryOf
-returns-3 c = simp (c .load-summary .ensures, c .before .before .action3 .given .1)
+returns-3 c = simp (c .load-summary .ensures, c .before .before .action3 .given .1, c .before .before .before .before .flag-effect .ensures)
 
 returns-4 : tie.Need-returns-4
 unfolding summaryOf
-returns-4 c = simp (c .push-summary .ensures, c .before .before .action4 .given .1)
+returns-4 c = simp (c .push-summary .ensures, c .before .before .action4 .given .1, c .before .before .before .before .flag-effect .ensures)
 
 returns-5 : tie.Need-returns-5
 unfolding summaryOf
-returns-5 c = simp (c .pop-summary .ensures, c .before .before .action5 .given .1)
+returns-5 c = simp (c .pop-summary .ensures, c .before .before .action5 .given .1, c .before .before .before .before .flag-effect .ensures)
 
 returns-6 : tie.Need-returns-6
 unfolding summaryOf
-returns-6 c = simp (c .reaching .ensures, c .before .code-access .ensures, c .before .before .before .action6 .given .1)
+returns-6 c = simp (c .reaching .ensures, c .before .code-access .ensures, c .before .before .before .action6 .given .1, c .before .before .before .before .before .flag-effect .ensures)
 
 returns-7 : tie.Need-returns-7
 unfolding summaryOf
-returns-7 c = simp (c .reaching2 .ensures, c .before .before .action7 .given .1)
+returns-7 c = simp (c .reaching2 .ensures, c .before .before .action7 .given .1, c .before .before .before .before .flag-effect .ensures)
 
 returns-8 : tie.Need-returns-8
 unfolding summaryOf
@@ -158,7 +161,7 @@ returns-8 c = simp (c .forbidden .ensures, c .before .enum-told .given .1)
 
 returns-9 : tie.Need-returns-9
 unfolding summaryOf
-returns-9 c = simp (c .going .ensures, c .before .before .action8 .given .1)
+returns-9 c = simp (c .going .ensures, c .before .before .action8 .given .1, c .before .before .before .before .flag-effect .ensures)
 
 returns-10 : tie.Need-returns-10
 unfolding summaryOf
@@ -166,7 +169,7 @@ returns-10 c = simp (c .forbidden2 .ensures, c .before .enum-told2 .given .1)
 
 returns-11 : tie.Need-returns-11
 unfolding summaryOf
-returns-11 c = simp (c .going2 .ensures, c .before .before .action9 .given .1)
+returns-11 c = simp (c .going2 .ensures, c .before .before .action9 .given .1, c .before .before .before .before .flag-effect .ensures)
 
 returns-12 : tie.Need-returns-12
 unfolding summaryOf
@@ -174,23 +177,23 @@ returns-12 c = simp (c .forbidden3 .ensures, c .before .enum-told3 .given .1)
 
 returns-13 : tie.Need-returns-13
 unfolding summaryOf
-returns-13 c = simp (c .going3 .ensures, c .before .enum-told4 .given .1)
+returns-13 c = simp (c .going3 .ensures, c .before .enum-told4 .given .1, c .before .before .before .flag-effect .ensures)
 
 returns-14 : tie.Need-returns-14
 unfolding summaryOf
-returns-14 c = simp (c .going4 .ensures, c .before .enum-told5 .given .1)
+returns-14 c = simp (c .going4 .ensures, c .before .enum-told5 .given .1, c .before .before .before .flag-effect .ensures)
 
 returns-15 : tie.Need-returns-15
 unfolding summaryOf
-returns-15 c = simp (c .plain .ensures, c .before .enum-told6 .given .1)
+returns-15 c = simp (c .plain .ensures, c .before .enum-told6 .given .1, c .before .before .before .flag-effect .ensures)
 
 returns-16 : tie.Need-returns-16
 unfolding summaryOf
-returns-16 c = simp (c .plain2 .ensures, c .before .switching .ensures, c .before .before .before .action10 .given .1)
+returns-16 c = simp (c .plain2 .ensures, c .before .switching .ensures, c .before .before .before .action10 .given .1, c .before .before .before .before .before .flag-effect .ensures)
 
 returns-17 : tie.Need-returns-17
 unfolding summaryOf
-returns-17 c = simp (c .plain3 .ensures, c .before .enum-told7 .given .1)
+returns-17 c = simp (c .plain3 .ensures, c .before .enum-told7 .given .1, c .before .before .before .flag-effect .ensures)
 
 returns-18 : tie.Need-returns-18
 unfolding summaryOf
@@ -198,12 +201,13 @@ returns-18 c = simp (c .forbidden4 .ensures, c .before .enum-told8 .given .1)
 
 returns-19 : tie.Need-returns-19
 unfolding summaryOf
-returns-19 c = simp (c .plain4 .ensures, c .before .enum-told9 .given .1)
+returns-19 c = simp (c .plain4 .ensures, c .before .enum-told9 .given .1, c .before .before .before .flag-effect .ensures)
 
 pub summary-of-spec : {M : Type 1} → statement M
 summary-of-spec =
     tie.close
     (tie.spec
+    flag-effect-requires
     enum-known-action
     operation-summary-requires
     enum-known-action-2

@@ -1,0 +1,4 @@
+pub mod Compares
+pub mod Kept
+pub mod Stores
+pub mod Witnesses
