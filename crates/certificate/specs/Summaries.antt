@@ -158,23 +158,27 @@ abbrev pub switching : Bool → Control
 switching true = Enable
 switching false = Disable
 
+-- of an action that names the flags n, f being its flag effect; an operation on two bytes works out its own, since CP leaves a compare
+abbrev pub summaryWith : Action → FlagSet → FlagEffect → Summary
+summaryWith (Action.Binary op d s) n f = into d (binarySummary (stores op) op d s n)
+summaryWith (Action.Modify op d) n f = into d (moving (writeTo d (modifyValue op)) Access.Nothing Access.Nothing f Same)
+summaryWith (Action.Load d s) n f = loadSummary d s f
+summaryWith (Action.Push s) n f = moving Write.Nothing Access.Nothing (reading s) f Push
+summaryWith (Action.Pop d) n f = into d (moving (writeTo d Unknown) Access.Nothing Access.Nothing f Pop)
+summaryWith (Action.LoadCode d c) n f = reaching (Write.Register d Unknown) (codeAccess c) f
+summaryWith (Action.LoadCodeStep d p up) n f = reaching (Write.RegisterAndPair d p) (CodeAccess.Pair p 0 0) f
+summaryWith Action.External n f = forbidden
+summaryWith (Action.Jump cc to) n f = controlling f Control.Nothing (Step cc to)
+summaryWith (Action.JumpPair p) n f = forbidden
+summaryWith (Action.Call to) n f = controlling f Control.Nothing (Call to)
+summaryWith (Action.CallPair p) n f = forbidden
+summaryWith Action.Return n f = controlling f Control.Nothing Return
+summaryWith Action.InterruptReturn n f = controlling f Control.Nothing InterruptReturn
+summaryWith (Action.Carry c) n f = controlling f Control.Nothing onward
+summaryWith (Action.Interrupts on) n f = controlling f (switching on) onward
+summaryWith Action.Idle n f = controlling f Wait onward
+summaryWith Action.Stop n f = forbidden
+summaryWith Action.Nop n f = controlling f Control.Nothing onward
+
 unfoldable pub summaryOf : Action → FlagSet → Summary
-summaryOf (Action.Binary op d s) n = into d (binarySummary (stores op) op d s n)
-summaryOf (Action.Modify op d) n = into d (moving (writeTo d (modifyValue op)) Access.Nothing Access.Nothing (flagEffect n Changed) Same)
-summaryOf (Action.Load d s) n = loadSummary d s (flagEffect n Changed)
-summaryOf (Action.Push s) n = moving Write.Nothing Access.Nothing (reading s) (flagEffect n Changed) Push
-summaryOf (Action.Pop d) n = into d (moving (writeTo d Unknown) Access.Nothing Access.Nothing (flagEffect n Changed) Pop)
-summaryOf (Action.LoadCode d c) n = reaching (Write.Register d Unknown) (codeAccess c) (flagEffect n Changed)
-summaryOf (Action.LoadCodeStep d p up) n = reaching (Write.RegisterAndPair d p) (CodeAccess.Pair p 0 0) (flagEffect n Changed)
-summaryOf Action.External n = forbidden
-summaryOf (Action.Jump cc to) n = controlling (flagEffect n Changed) Control.Nothing (Step cc to)
-summaryOf (Action.JumpPair p) n = forbidden
-summaryOf (Action.Call to) n = controlling (flagEffect n Changed) Control.Nothing (Call to)
-summaryOf (Action.CallPair p) n = forbidden
-summaryOf Action.Return n = controlling (flagEffect n Changed) Control.Nothing Return
-summaryOf Action.InterruptReturn n = controlling (flagEffect n Changed) Control.Nothing InterruptReturn
-summaryOf (Action.Carry c) n = controlling (flagEffect n Changed) Control.Nothing onward
-summaryOf (Action.Interrupts on) n = controlling (flagEffect n Changed) (switching on) onward
-summaryOf Action.Idle n = controlling (flagEffect n Changed) Wait onward
-summaryOf Action.Stop n = forbidden
-summaryOf Action.Nop n = controlling (flagEffect n Changed) Control.Nothing onward
+summaryOf act n = summaryWith act n (flagEffect n Changed)

@@ -64,8 +64,8 @@ line-sum = sums.line-sum
 -- is changed by some step of that first byte without such a store; IRET names all four. Behind a CALL a compare still never holds; elsewhere it survives
 -- exactly those instructions that name no flag and cannot write its cell --
 
--- the flags that the pages of chapter 6 say are affected, typed by first byte (`isa` S`PrintedFlags`), are those that the map gives
-pub flags-as-printed : (b : ℕ) → b < 256 → getD printedFlags b 0 ≡ namesOf b .0
+-- the flags that the map names are those that the pages of chapter 6 say are affected, typed page by page (`isa` S`PrintedFlags`)
+pub flags-as-printed : (b : ℕ) → b < 256 → printedFlags b ≡ namesOf b
 flags-as-printed = printed.flags-as-printed
 
 -- the decoder's answer carries them, and the first byte alone decides them
