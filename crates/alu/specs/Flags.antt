@@ -3,12 +3,11 @@
 use Prim.Native.Nat.{ℕ, _+_, _%_}
 use mathlib.Core.Bool.{Bool, Bool·beq, true, false, not, _&&_, _||_}
 use mathlib.Core.List.{List, [], _∷_}
-use lib.Dec.{eqb}
 use Rattle.base.specs.Choice.{pick, choose}
 use Rattle.isa.specs.declared.Flag.{Flag}
 use Rattle.isa.specs.declared.Flag.the-variants.{Carry, Zero, Sign, Overflow}
 use Rattle.isa.specs.declared.FlagSet.{FlagSet}
-use Rattle.isa.specs.Flags.{flagIn}
+use Rattle.isa.specs.Flags.{weightOf, flagIn}
 
 unfoldable pub carry : ℕ → Bool
 carry f = flagIn Carry f
@@ -24,17 +23,15 @@ overflowFlag f = flagIn Overflow f
 
 -- the byte with these flags; bits 3 to 0 are 0
 unfoldable pub flagsByte : Bool → Bool → Bool → Bool → ℕ
-flagsByte c z s v = pick c 128 0 + pick z 64 0 + pick s 32 0 + pick v 16 0
+flagsByte c z s v = pick c (weightOf Carry) 0 + pick z (weightOf Zero) 0 + pick s (weightOf Sign) 0 + pick v (weightOf Overflow) 0
 
 -- a flag of FLAGS f once those that n names are as in x: a flag that is not named stays (02, request 07)
 unfoldable pub updated : Flag → ℕ → FlagSet → ℕ → Bool
 updated g f n x = pick (flagIn g (n .0)) (flagIn g x) (flagIn g f)
 
--- FLAGS f once the flags that n names are as in x; where none is named it stays whole, else bits 3 to 0 become 0
+-- FLAGS f once the flags that n names are as in x; bits 3 to 0 are 0
 unfoldable pub update : ℕ → FlagSet → ℕ → ℕ
-update f n x =
-    pick (eqb (n .0) 0) f
-    (flagsByte (updated Carry f n x) (updated Zero f n x) (updated Sign f n x) (updated Overflow f n x))
+update f n x = flagsByte (updated Carry f n x) (updated Zero f n x) (updated Sign f n x) (updated Overflow f n x)
 
 -- the conditions of C, Z, S, V by number (table 6-6; GE, LT, GT, LE as 01 settles them)
 abbrev pub conditions : Bool → Bool → Bool → Bool → List (ℕ × Bool)

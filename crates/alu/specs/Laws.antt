@@ -12,7 +12,7 @@ use borrow.Author.Tests.{eqb-true, ltb-true, lt-ltb, le-ltb, le-leb, lt-leb, eq-
 use Rattle.base.specs.Choice.{pick}
 use Rattle.base.specs.ChoiceLaws.{pick-has}
 use Rattle.base.specs.Formula.{sound, same?, le?}
-use Rattle.base.specs.Formula.Formula.{test, forallBelow}
+use Rattle.base.specs.Formula.Formula.{test, eq, _⇒_, forallBelow}
 use Rattle.isa.specs.declared.Alu.{Alu}
 use Rattle.isa.specs.declared.Alu.the-variants.{Add, Adc, Sub, Sbc, Or, And, Tcm, Tm, Cp, Xor}
 use Rattle.isa.specs.declared.Unary.{Unary}
@@ -86,7 +86,7 @@ byte-low : (c z s v : Bool) → flagsByte c z s v % 16 ≡ 0
 unfolding flagsByte
 byte-low c z s v = eqb-true _ _ (at-setting (λ c z s v. eqb (flagsByte c z s v % 16) 0) refl c z s v)
 
--- a flag that is named is as in x, another stays; where none is named FLAGS stays whole
+-- a flag that is named is as in x, another stays
 pub not-in-none : (g : Flag) → flagIn g 0 ≡ false
 unfolding flagIn
 not-in-none Carry = refl
@@ -101,30 +101,18 @@ by-flag Zero f n x = refl
 by-flag Sign f n x = refl
 by-flag Overflow f n x = refl
 
-pub update-none : (f : ℕ) (n : FlagSet) (x : ℕ) → n .0 ≡ 0 → update f n x ≡ f
-unfolding update
-update-none f n x e = rw e
-
-updated-none : (g : Flag) (f : ℕ) (n : FlagSet) (x : ℕ) → n .0 ≡ 0 → updated g f n x ≡ flagIn g f
-unfolding updated
-updated-none g f n x e = rw (e, not-in-none g)
-
 pub update-flag : (g : Flag) (f : ℕ) (n : FlagSet) (x : ℕ) → flagIn g (update f n x) ≡ updated g f n x
 unfolding update
-update-flag g f n x =
-    ⊎-elim
-    (λ (e : n .0 ≡ 0). ap (flagIn g) (update-none f n x e) ∙ sym (updated-none g f n x e))
-    (λ (ne : n .0 ≢ 0). rw (ne-eqb (n .0) 0 ne) (byte-flag g _ _ _ _ ∙ by-flag g f n x))
-    (same? (n .0) 0)
+update-flag g f n x = byte-flag g _ _ _ _ ∙ by-flag g f n x
 
--- FLAGS stays a byte, and keeps 0 in bits 3 to 0
-pub update-bound : (f : ℕ) (n : FlagSet) (x : ℕ) → f < 256 → update f n x < 256
+-- FLAGS is a byte, with 0 in bits 3 to 0
+pub update-bound : (f : ℕ) (n : FlagSet) (x : ℕ) → update f n x < 256
 unfolding update
-update-bound f n x h = pick-has (λ (k : ℕ). k < 256) (eqb (n .0) 0) f _ (λ _. h) (λ _. byte-bound _ _ _ _)
+update-bound f n x = byte-bound _ _ _ _
 
-pub update-low : (f : ℕ) (n : FlagSet) (x : ℕ) → f % 16 ≡ 0 → update f n x % 16 ≡ 0
+pub update-low : (f : ℕ) (n : FlagSet) (x : ℕ) → update f n x % 16 ≡ 0
 unfolding update
-update-low f n x h = pick-has (λ (k : ℕ). k % 16 ≡ 0) (eqb (n .0) 0) f _ (λ _. h) (λ _. byte-low _ _ _ _)
+update-low f n x = byte-low _ _ _ _
 
 -- where all four are named FLAGS is the byte itself
 pub in-all : (g : Flag) → flagIn g (allFlags .0) ≡ true
@@ -147,6 +135,17 @@ update-all f c z s v =
       byte-flag Sign c z s v,
       byte-flag Overflow c z s v,
     )
+
+-- a byte with 0 in bits 3 to 0 is that of its flags
+own-flags : (x : ℕ) → x < 256 → x % 16 ≡ 0 → flagsByte (flagIn Carry x) (flagIn Zero x) (flagIn Sign x) (flagIn Overflow x) ≡ x
+unfolding flagIn flagsByte
+own-flags x h z =
+    sound (forallBelow 256 (λ x. eq (x % 16) 0 ⇒ eq (flagsByte (flagIn Carry x) (flagIn Zero x) (flagIn Sign x) (flagIn Overflow x)) x)) tt x h z
+
+pub update-whole : (f x : ℕ) → x < 256 → x % 16 ≡ 0 → update f allFlags x ≡ x
+update-whole f x h z =
+    let e = own-flags x h z in
+    ap (update f allFlags) (sym e) ∙ (update-all f _ _ _ _ ∙ e)
 
 -- conditions: F never holds, T always does, and the opposite of a condition below 8 is 8 above it
 pub condition-never : (f : ℕ) → condition 0 f ≡ false

@@ -58,9 +58,6 @@ pub fn flags_byte(c: bool, z: bool, s: bool, v: bool) -> u8
 pub fn update(flags: u8, names: FlagSet, x: u8) -> u8
     ensures { λ r. ⌜ r ≡ update flags names x ⌝ }
 {
-    if names.0 == 0 {
-        return flags;
-    }
     let n = names.0 & 0xF0;
     (flags & (0xF0 ^ n)) | (x & n)
 }
@@ -110,7 +107,7 @@ fn subtraction(x: u8, y: u8, k: u8) -> Computed
     }
 }
 
-// A logical operation's result: V is 0.
+// A logical operation's result: V is 0; C, which it does not name, is 0 here and not used.
 fn logical(value: u8) -> Computed
     ensures { λ r. ⌜ r ≡ logical value ⌝ }
 {
@@ -156,7 +153,7 @@ pub fn stores(op: Alu) -> bool
     }
 }
 
-// INC.
+// INC; C is not used.
 fn increment(x: u8) -> Computed
     ensures { λ r. ⌜ r ≡ increment x ⌝ }
 {
@@ -167,7 +164,7 @@ fn increment(x: u8) -> Computed
     }
 }
 
-// DEC.
+// DEC; C is not used.
 fn decrement(x: u8) -> Computed
     ensures { λ r. ⌜ r ≡ decrement x ⌝ }
 {

@@ -1,6 +1,7 @@
 // Prints the table of cycles in docs/CERTIFICATE.md, a row for each instruction with its operands. The names are typed here; bytes and cycles
 // are those of `isa`. The last line tells whether each first byte is in the one row that it belongs to.
 use base::byte_at;
+use test_support::hex_byte;
 use test_support::print;
 use test_support::print_field;
 use test_support::print_number;
@@ -16,19 +17,6 @@ const FREE: u8 = 0;
 const TAKEN: u8 = 1;
 
 const DIFFERS: u8 = 2;
-
-// A hexadecimal digit's value; 0 for `x`.
-fn digit(b: u8) -> u16 {
-    if b < b'A' {
-        return (b % 16) as u16;
-    }
-    if b == b'x' { 0 } else { (b % 16) as u16 + 9 }
-}
-
-// The first byte that two digits give.
-fn code(high: u8, low: u8) -> u8 {
-    (digit(high) % 16 * 16 + digit(low) % 16) as u8
-}
 
 // Whether two first bytes have the same length and cycles.
 fn alike(a: u8, b: u8) -> bool {
@@ -73,7 +61,7 @@ fn print_row(text: &[u8], n: u8, first: u8) {
 fn row(seen: &mut [u8; 256], text: &[u8], n: u8) {
     let at = WIDTH * (n as usize);
     let high = byte_at(text, at);
-    let first = code(high, byte_at(text, at + 1));
+    let first = hex_byte(high, byte_at(text, at + 1));
     place(seen, first, if high == b'x' { 16 } else { 1 });
     print_row(text, n, first);
 }

@@ -26,12 +26,12 @@ use Rattle.semantics.specs.declared.State.{State}
 use Rattle.semantics.specs.Step.{requested, entryDue, behind, stepOf}
 use Rattle.certificate.specs.declared.Flow.the-variants.{Step, Call}
 use Rattle.certificate.specs.Layout.{Certificate}
-use Rattle.safety.specs.Rules.{noCell, present, Edge, edge26, rule26}
+use Rattle.safety.specs.Rules.{noCell, Edge, edge26, rule26}
 use Rattle.safety.specs.Verdicts.{summaryAt}
 use Rattle.flag_names.specs.Stores.{storesFlags}
 use Rattle.flag_names.specs.Kept.{flagsIn, unnamed-kept, iret-named}
 use Rattle.flag_names.specs.Witnesses.{ChangedBy, named-changed}
-use Rattle.flag_names.specs.Compares.{Survives, EdgeFollows, compare-survives, survives-call, none-behind-call}
+use Rattle.flag_names.specs.Compares.{EdgeFollows, CallFollows, compare-survives, compare-over-call, none-behind-call}
 use Rattle.hex_line.specs.declared.Fields.{Fields}
 use Rattle.hex_line.specs.declared.Reader.{Reader}
 use Rattle.hex_line.specs.Record.{sumOf, countOf, parseBody, bodyLength}
@@ -79,8 +79,8 @@ pub encoded-decodes-back : (before behind : List ℕ) (i : Instruction) (bs : Li
 encoded-decodes-back = encoded-decodes
 
 -- a flag not named is unchanged by the step: one that is no interrupt entry, and whose instruction does not store into FLAGS (`flag_names` S`Stores`)
-pub unnamed-flag-stays : (image : List ℕ) → Bytes image → (s : State) (rec : List ℕ) (d : Instruction × ℕ × FlagSet) → decodeAt image (s .pc .0) ≡ value d
-    → (g : Flag) → flagIn g (d .2 .0) ≡ false
+pub unnamed-flag-stays : (image : List ℕ) (s : State) (rec : List ℕ) (d : Instruction × ℕ × FlagSet) → decodeAt image (s .pc .0) ≡ value d → (g : Flag)
+    → flagIn g (d .2 .0) ≡ false
     → storesFlags (actionOf (d .0) (behind (s .pc) (d .1))) (requested s rec) rec (behind (s .pc) (d .1)) ≡ false
     → entryDue (requested s rec) (s .mode) ≡ false
     → flagIn g (flagsIn (stepOf image s rec .state .regs)) ≡ flagIn g (flagsIn (s .regs))
@@ -107,11 +107,12 @@ pub compare-survives-exactly : (C : Certificate) (image : List ℕ) (a : ℕ) (d
     → (Holds (edge26 C a (summaryAt image a) e) → EdgeFollows C image a d e) × (EdgeFollows C image a d e → Holds (edge26 C a (summaryAt image a) e))
 compare-survives-exactly = compare-survives
 
--- at the start that a CALL goes to a compare is the one at the CALL
-pub compare-at-callee : (C : Certificate) (image : List ℕ) (a : ℕ) (d : Instruction × ℕ × FlagSet) → Bytes image → decodeAt image a ≡ value d
-    → (next : ℕ) (to : RomAddr) → summaryAt image a .flow ≡ Call to → Holds (rule26 C a (summaryAt image a) next)
-    → Holds (present (C .compareCell (to .0))) → Survives C image a d (to .0)
-compare-at-callee = survives-call
+-- rule 26 of a CALL says that the claims follow, that there is no compare behind it, and that one at the start that it goes to survives the CALL
+pub compare-over-call-exactly : (C : Certificate) (image : List ℕ) (a : ℕ) (d : Instruction × ℕ × FlagSet) → Bytes image → decodeAt image a ≡ value d
+    → (next : ℕ) (to : RomAddr) → summaryAt image a .flow ≡ Call to
+    → (Holds (rule26 C a (summaryAt image a) next) → CallFollows C image a d next (to .0))
+    × (CallFollows C image a d next (to .0) → Holds (rule26 C a (summaryAt image a) next))
+compare-over-call-exactly = compare-over-call
 
 -- Request 13. Lower-case HEX goes. Our programmers' sockets reject small letters, and mixed files caused returned chips. From now on the reader refuses
 -- them. For files already in the drawer one separate call turns in place an old line that breaks none of 1 to 3 as they stood into its upper-case line;

@@ -197,7 +197,7 @@ pub fn execute(
         Action::Call(to) => stack::call(to, regs, pc),
         Action::CallPair(p) => stack::call_pair(p, regs, rec, pc),
         Action::Return => stack::return_from_call(regs, rec),
-        Action::InterruptReturn => stack::interrupt_return(regs, rec),
+        Action::InterruptReturn => stack::interrupt_return(names, regs, rec),
         Action::Carry(change) => change_carry(change, names, regs, pc),
         Action::Interrupts(on) => switch_interrupts(on, regs, pc),
         Action::Idle => Next {

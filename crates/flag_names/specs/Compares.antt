@@ -1,5 +1,5 @@
 -- Which compares survive an instruction: elsewhere than behind a CALL those, and only those, over an instruction that names no flag and cannot write the
--- compare's cell; behind a CALL none.
+-- compare's cell; behind a CALL none, at the start that it goes to the one at the CALL.
 -- Assumes nothing.
 use Prim.Native.Nat.{ℕ, _+_, _%_, _<_}
 use mathlib.Core.Path.{_≡_, refl, sym, ap, subst, _∙_}
@@ -42,7 +42,7 @@ use Rattle.certificate.specs.declared.Flow.the-variants.{Step, Call, Return, In
 use Rattle.certificate.specs.declared.Summary.{Summary}
 use Rattle.certificate.specs.Layout.{Certificate}
 use Rattle.certificate.specs.Summaries.{flagEffect, binaryFlags, binarySummary, summaryOf}
-use Rattle.safety.specs.Rules.{noCell, present, Edge, feasible, isUnchanged, changeOf, claimsFollow, flagsFollow, compareFollows, edge26, call26, calls, rule26}
+use Rattle.safety.specs.Rules.{noCell, present, Edge, plainEdge, feasible, callee, isUnchanged, changeOf, claimsFollow, flagsFollow, compareFollows, survives, edge26, call26, calls, rule26}
 use Rattle.safety.specs.Invariant.{Shaped}
 use Rattle.safety.specs.DecodedShape.{decoded-shaped}
 use Rattle.safety.specs.Transfers.{is-call}
@@ -169,6 +169,14 @@ module _ (C : Certificate) (image : List ℕ) (a : ℕ) (d : Instruction × ℕ 
       Holds (feasible C a e)
       → Holds (claimsFollow C a e (summaryAt image a .write)) × (Holds (present (C .compareCell (e .to))) → Makes (e .to) ⊎ Survives (e .to))
 
+  -- over a CALL to t: the claims behind it survive and there is no compare; at t the claims follow, and a compare is the one at a
+  pub record CallFollows (next t : ℕ) : Type 0 where
+    pub first : Holds (survives C a (callee C t) (C .firstCell next) (C .firstLow next) (C .firstHigh next))
+    pub second : Holds (survives C a (callee C t) (C .secondCell next) (C .secondLow next) (C .secondHigh next))
+    pub behind : C .compareCell next ≡ noCell
+    pub claims : Holds (claimsFollow C a (plainEdge t) Write.Nothing)
+    pub compare : Holds (present (C .compareCell t)) → Survives t
+
   module _ (bytes : Bytes image) (found : decodeAt image a ≡ value d) where
     summary-there : summaryAt image a ≡ summaryOf actionThere (d .2)
     unfolding summaryAt summaryFrom
@@ -227,20 +235,45 @@ module _ (C : Certificate) (image : List ℕ) (a : ℕ) (d : Instruction × ℕ 
         let stays = subst Stays (sym flow) tt in
         ((λ h f. (h f .0, follows-only stays (e .to) (h f .1))), (λ h f. (h f .0, λ p. follows-if stays (e .to) (h f .1 p) p)))
 
-    -- at the start that a CALL goes to a compare is the one at the CALL, which names no flag and writes no cell
-    pub survives-call : (next : ℕ) (to : RomAddr) → summaryAt image a .flow ≡ Call to → Holds (rule26 C a (summaryAt image a) next)
-        → Holds (present (C .compareCell (to .0))) → Survives (to .0)
-    unfolding rule26 call26 summaryOf
-    survives-call next to flow h p =
-        let call = is-call actionThere (d .2) to (sym (ap (λ (S : Summary). S .flow) summary-there) ∙ flow) in
-        let S = summary-there ∙ ap (λ (x : Action). summaryOf x (d .2)) call in
-        let there = subst (λ (f : Flow). Holds (calls f (call26 C a (summaryAt image a .flags) next))) flow (h .1) .1 .1 .1 .1 in
-        ⊎-elim (λ (m : Makes (to .0)). absurd (not-compare (sym call ∙ m .compares))) (λ (s : Survives (to .0)). s)
-        (follows-only (subst Stays (sym flow) tt) (to .0)
-        (subst (λ (w : Write). Holds (compareFollows C a w (summaryAt image a .flags) (to .0))) (sym (ap (λ (S : Summary). S .write) S)) there) p)
+    -- rule 26 of a CALL, which writes no cell, says that, and no more
+    pub compare-over-call : (next : ℕ) (to : RomAddr) → summaryAt image a .flow ≡ Call to
+        → (Holds (rule26 C a (summaryAt image a) next) → CallFollows next (to .0)) × (CallFollows next (to .0) → Holds (rule26 C a (summaryAt image a) next))
+    unfolding rule26 call26 summaryOf compareFollows
+    compare-over-call next to flow =
+        ((λ h. rule-only (subst (λ (f : Flow). Holds (calls f (call26 C a (summaryAt image a .flags) next))) flow (h .1))), (λ k. rw flow (tt, rule-if k)))
       where
+        t : ℕ
+        t = to .0
+
+        call : actionThere ≡ Action.Call to
+        call = is-call actionThere (d .2) to (sym (ap (λ (S : Summary). S .flow) summary-there) ∙ flow)
+
+        stays : Stays (summaryAt image a .flow)
+        stays = subst Stays (sym flow) tt
+
+        unwritten : summaryAt image a .write ≡ Write.Nothing
+        unwritten = ap (λ (S : Summary). S .write) (summary-there ∙ ap (λ (x : Action). summaryOf x (d .2)) call)
+
+        CompareFollows : Write → Type 0
+        CompareFollows w = Holds (compareFollows C a w (summaryAt image a .flags) t)
+
         not-compare : {x : RegAddr} {k : ℕ} → Action.Call to ≡ Action.Binary Cp (Register x) (Immediate k) → ⊥
         not-compare {x} {k} e = let z : _≡_ {A = ℕ} 0 1 = cc in omega arith
+
+        rule-only : Holds (call26 C a (summaryAt image a .flags) next t) → CallFollows next t
+        rule-only h = record {
+          first = h .0;
+          second = h .1 .0;
+          behind = h .1 .1 .0;
+          claims = h .1 .1 .1 .0;
+          compare = λ p.
+              ⊎-elim (λ (m : Makes t). absurd (not-compare (sym call ∙ m .compares))) (λ (s : Survives t). s)
+              (follows-only stays t (subst CompareFollows (sym unwritten) (h .1 .1 .1 .1)) p);
+        }
+
+        rule-if : CallFollows next t → Holds (call26 C a (summaryAt image a .flags) next t)
+        rule-if k =
+            (k .first, (k .second, (k .behind, (k .claims, subst CompareFollows unwritten (λ p. follows-if stays t (inr (k .compare p)) p)))))
 
 -- behind a CALL no compare holds
 pub none-behind-call : (C : Certificate) (image : List ℕ) (a next : ℕ) (to : RomAddr) → summaryAt image a .flow ≡ Call to

@@ -30,12 +30,12 @@ use Rattle.chip.specs.Interrupts.{setInterruptsOf}
 use Rattle.chip.specs.InterruptLaws.{set-interrupts-other, post-other}
 use Rattle.alu.specs.Flags.{carry, flagsByte, updated, update}
 use Rattle.alu.specs.Operations.{operate, modify, stores}
-use Rattle.alu.specs.Laws.{update-flag, in-all}
+use Rattle.alu.specs.Laws.{update-flag}
 use Rattle.action.specs.declared.Action.{Action}
 use Rattle.action.specs.Action.{actionOf}
 use Rattle.semantics.specs.Operands.{placeOf, fetchOf, wordAt, withFlags, spOf, lowered, raised, storeTop, pushOf, pushAddress}
 use Rattle.semantics.specs.Execute.{storeIf, codeAddress, steppedPair, binaryOf, modifyOf, loadInto, pushOperand, popOperand, loadCodeOf, loadCodeStepOf, jumpOf, jumpPairOf}
-use Rattle.semantics.specs.Execute.{callOf, callPairOf, returnOf, carryChanged, carryOf, stopOf, executeOf}
+use Rattle.semantics.specs.Execute.{callOf, callPairOf, returnOf, interruptReturnOf, carryChanged, carryOf, stopOf, executeOf}
 use Rattle.semantics.specs.declared.Mode.{Mode}
 use Rattle.semantics.specs.declared.Mode.the-variants.{Running, Idle, Stopped}
 use Rattle.semantics.specs.declared.State.{State}
@@ -81,11 +81,13 @@ address-kept r a n m = push-kept (pushOf r (a .0 % 256) .regs) _ m ∙ push-kept
 set-kept : (g : Flag) (r : List ℕ) (n : FlagSet) (x : ℕ) → flagIn g (n .0) ≡ false → flagIn g (flagsIn (withFlags r n x)) ≡ flagIn g (flagsIn r)
 unfolding withFlags updated
 set-kept g r n x u =
+    pick-has (λ (l : List ℕ). flagIn g (flagsIn l) ≡ flagIn g (flagsIn r)) (eqb (n .0) 0) _ _ (λ _. refl)
+    (λ _.
     ⊎-elim
     (λ (h : length r ≤ flagsCell). ap (λ (l : List ℕ). flagIn g (flagsIn l)) (set-out r flagsCell (update (flagsIn r) n x) h))
     (λ (h : flagsCell < length r).
     ap (flagIn g) (getD-set-same r flagsCell (update (flagsIn r) n x) 0 h) ∙ (update-flag g (flagsIn r) n x ∙ rw u))
-    (le? (length r) flagsCell)
+    (le? (length r) flagsCell))
 
 module _ (g : Flag) (n : FlagSet) (u : flagIn g (n .0) ≡ false) (image regs rec : List ℕ) (next : RomAddr) where
   -- the flag is the same in these registers
@@ -116,45 +118,47 @@ module _ (g : Flag) (n : FlagSet) (u : flagIn g (n .0) ≡ false) (image regs re
       let second = spOf (lowered (pushOf regs (next .0 % 256) .regs)) in
       address-kept regs next (among-head first (second ∷ []) h) (among-head second [] (among-tail first (second ∷ []) h))
 
-  executed-kept : (act : Action) → (act ≡ Action.InterruptReturn → n ≡ allFlags) → storesFlags act regs rec next ≡ false
-      → Same (executeOf act n image regs rec next .regs)
-  unfolding storesFlags storedTo executeOf binaryOf modifyOf loadInto pushOperand popOperand loadCodeOf loadCodeStepOf jumpOf jumpPairOf callOf callPairOf returnOf carryOf stopOf pushOf
-  executed-kept (Action.Binary op d s) i h =
+  executed-kept : (act : Action) → storesFlags act regs rec next ≡ false → Same (executeOf act n image regs rec next .regs)
+  unfolding storesFlags storedTo executeOf binaryOf modifyOf loadInto pushOperand popOperand loadCodeOf loadCodeStepOf jumpOf jumpPairOf callOf callPairOf returnOf interruptReturnOf carryOf stopOf pushOf
+  executed-kept (Action.Binary op d s) h =
       let p = placeOf regs rec d in
       let o = operate op (loadOf regs rec (p .addr .0)) (fetchOf regs rec s .value) (carry (flagsIn regs)) in
       let r = storeIf regs (stores op) (p .addr) (o .value) in
       set-kept g r n (o .flags) u ∙ kept r (stored (stores op) (p .addr) (o .value) h)
-  executed-kept (Action.Modify op d) i h =
+  executed-kept (Action.Modify op d) h =
       let p = placeOf regs rec d in
       let o = modify op (loadOf regs rec (p .addr .0)) (carry (flagsIn regs)) in
       set-kept g (storeOf regs (p .addr .0) (o .value)) n (o .flags) u ∙ kept-at (p .addr .0) (o .value) h
-  executed-kept (Action.Load d s) i h = kept-at (placeOf regs rec d .addr .0) (fetchOf regs rec s .value) h
-  executed-kept (Action.Push s) i h =
+  executed-kept (Action.Load d s) h = kept-at (placeOf regs rec d .addr .0) (fetchOf regs rec s .value) h
+  executed-kept (Action.Push s) h =
       let v = fetchOf (lowered regs) rec s .value in
       kept (pushOf regs v .regs) (push-kept regs v (among-head (spOf (lowered regs)) [] h))
-  executed-kept (Action.Pop d) i h =
+  executed-kept (Action.Pop d) h =
       let a = placeOf regs rec d .addr .0 in
       let r = storeOf regs a (loadOf regs rec (spOf regs)) in
       ap (flagIn g) (raised-kept r 1) ∙ kept-at a (loadOf regs rec (spOf regs)) h
-  executed-kept (Action.LoadCode d c) i h = kept-at (d .0) (getD image (codeAddress c regs rec) 0) h
-  executed-kept (Action.LoadCodeStep d p up) i h =
+  executed-kept (Action.LoadCode d c) h = kept-at (d .0) (getD image (codeAddress c regs rec) 0) h
+  executed-kept (Action.LoadCodeStep d p up) h =
       let pair = p .0 ∷ (p .0 + 1) % 256 ∷ [] in
       let v = getD image (wordAt regs rec (p .0)) 0 in
       let r = storeOf regs (d .0) v in
       kept (steppedPair r rec (p .0) up)
       (stepped-kept r (p .0) up (among-tail (d .0) pair h) ∙ store-other regs (d .0) v flagsCell (among-head (d .0) pair h))
-  executed-kept Action.External i h = refl
-  executed-kept (Action.Jump cc to) i h = refl
-  executed-kept (Action.JumpPair p) i h = refl
-  executed-kept (Action.Call to) i h = kept (pushAddress regs next .regs) (call-kept h)
-  executed-kept (Action.CallPair p) i h = kept (pushAddress regs next .regs) (call-kept h)
-  executed-kept Action.Return i h = kept (raised regs 2) (raised-kept regs 2)
-  executed-kept Action.InterruptReturn i h = absurd (subst T (sym (in-all g) ∙ (ap (λ (m : FlagSet). flagIn g (m .0)) (sym (i refl)) ∙ u)) tt)
-  executed-kept (Action.Carry c) i h = set-kept g regs n (flagsByte (carryChanged c (carry (flagsIn regs))) false false false) u
-  executed-kept (Action.Interrupts on) i h = kept (setInterruptsOf regs on) (set-interrupts-other regs on flagsCell (omega arith))
-  executed-kept Action.Idle i h = refl
-  executed-kept Action.Stop i h = refl
-  executed-kept Action.Nop i h = refl
+  executed-kept Action.External h = refl
+  executed-kept (Action.Jump cc to) h = refl
+  executed-kept (Action.JumpPair p) h = refl
+  executed-kept (Action.Call to) h = kept (pushAddress regs next .regs) (call-kept h)
+  executed-kept (Action.CallPair p) h = kept (pushAddress regs next .regs) (call-kept h)
+  executed-kept Action.Return h = kept (raised regs 2) (raised-kept regs 2)
+  executed-kept Action.InterruptReturn h =
+      let w = withFlags regs n (loadOf regs rec (spOf regs)) in
+      ap (flagIn g) (set-interrupts-other (raised (raised w 1) 2) true flagsCell (omega arith) ∙ (raised-kept (raised w 1) 2 ∙ raised-kept w 1))
+      ∙ set-kept g regs n (loadOf regs rec (spOf regs)) u
+  executed-kept (Action.Carry c) h = set-kept g regs n (flagsByte (carryChanged c (carry (flagsIn regs))) false false false) u
+  executed-kept (Action.Interrupts on) h = kept (setInterruptsOf regs on) (set-interrupts-other regs on flagsCell (omega arith))
+  executed-kept Action.Idle h = refl
+  executed-kept Action.Stop h = refl
+  executed-kept Action.Nop h = refl
 
 -- Of a step --
 
@@ -162,7 +166,7 @@ module _ (g : Flag) (n : FlagSet) (u : flagIn g (n .0) ≡ false) (image regs re
 requested-kept : (s : State) (rec : List ℕ) → flagsIn (requested s rec) ≡ flagsIn (s .regs)
 requested-kept s rec = post-other (s .regs) _ flagsCell (omega arith) (omega arith) (omega arith) (omega arith)
 
-module _ (image : List ℕ) (bytes : Bytes image) (s : State) (rec : List ℕ) (d : Instruction × ℕ × FlagSet) (found : decodeAt image (s .pc .0) ≡ value d) (g : Flag) where
+module _ (image : List ℕ) (s : State) (rec : List ℕ) (d : Instruction × ℕ × FlagSet) (found : decodeAt image (s .pc .0) ≡ value d) (g : Flag) where
   -- the instruction at the program counter, and the address behind it
   abbrev nextHere : RomAddr
   nextHere = behind (s .pc) (d .1)
@@ -187,10 +191,7 @@ module _ (image : List ℕ) (bytes : Bytes image) (s : State) (rec : List ℕ) (
     decoded-same =
         rw found
         (finished-same _ _
-        (executed-kept g (d .2) unnamed image (requested s rec) rec nextHere actionHere all elsewhere ∙ ap (flagIn g) (requested-kept s rec)))
-      where
-        all : actionHere ≡ Action.InterruptReturn → d .2 ≡ allFlags
-        all e = subst (λ (x : Action). Shaped (d .2) x) e (decoded-shaped image bytes (s .pc .0) d found nextHere)
+        (executed-kept g (d .2) unnamed image (requested s rec) rec nextHere actionHere elsewhere ∙ ap (flagIn g) (requested-kept s rec)))
 
     mode-same : (m : Mode) → SameIn (modeAct m image s (requested s rec) rec .state)
     unfolding modeAct

@@ -1,6 +1,6 @@
 -- The addresses of an instruction's stores, and whether FLAGS is among them (02, request 07: 'unless the instruction stores into FLAGS itself'): its
 -- destination, direct or pointed, both halves of the pair that LDCI and LDCD step, and where PUSH and CALL write to the stack. SP, the interrupt enable and
--- the named flags, which are set in place, do not count; nor does IRET's load of FLAGS, since it names all four.
+-- the named flags, which are set in place, do not count: so neither does IRET's load of FLAGS, all four of which it names.
 -- Assumes nothing.
 use Prim.Native.Nat.{ℕ, _+_, _%_}
 use mathlib.Core.Bool.{Bool}

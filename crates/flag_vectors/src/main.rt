@@ -5,6 +5,7 @@ use isa::Flag;
 use isa::FlagSet;
 use test_support::Case;
 use test_support::Counts;
+use test_support::hex_byte;
 use test_support::print;
 use test_support::put;
 use test_support::read_byte;
@@ -25,18 +26,6 @@ fn read_line(fd: i32, line: &mut Line) -> usize {
         n += 1;
     }
     n
-}
-
-// The value of a hexadecimal digit.
-fn digit(b: u8) -> u8 {
-    if b < b'A' {
-        return b % 16;
-    }
-    b % 16 + 9
-}
-
-fn first_byte(high: u8, low: u8) -> u8 {
-    digit(high) % 16 * 16 + digit(low) % 16
 }
 
 // A letter where a flag is named; where the next one goes.
@@ -65,7 +54,7 @@ fn line_of(high: u8, low: u8) -> Line {
     store(&mut line, 0, high);
     store(&mut line, 1, low);
     store(&mut line, 2, b' ');
-    let bytes = [first_byte(high, low), 0x20, 0x20, 0x20];
+    let bytes = [hex_byte(high, low), 0x20, 0x20, 0x20];
     match decode(&bytes, 0) {
         Decoded::Found(_, _, names) => put_names(&mut line, names),
         Decoded::Undefined => put(&mut line, 3, b"undefined"),

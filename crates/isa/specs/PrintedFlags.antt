@@ -4,76 +4,92 @@
 -- Assumes nothing.
 use Prim.Native.Nat.{ℕ, _+_, _*_, _<_}
 use mathlib.Core.Path.{_≡_, refl}
-use mathlib.Core.Bool.{true, false}
-use mathlib.Core.List.{List, [], _∷_, map}
+use mathlib.Core.List.{List, [], _∷_, _++_, map}
 use lib.Dec.{eqb}
 use Rattle.base.specs.Choice.{pick, from, count}
 use Rattle.base.specs.Table.{agree}
+use Rattle.isa.specs.declared.Flag.{Flag}
+use Rattle.isa.specs.declared.Flag.the-variants.{Carry, Zero, Sign, Overflow}
 use Rattle.isa.specs.declared.FlagSet.{FlagSet}
-use Rattle.isa.specs.Flags.{noFlags, carryFlag, resultFlags, allFlags}
+use Rattle.isa.specs.Flags.{weightOf, noFlags}
 use Rattle.isa.specs.Map.{lengthOf, namesOf}
+
+-- what a page lists as affected
+abbrev czsv : List Flag
+czsv = Carry ∷ Zero ∷ Sign ∷ Overflow ∷ []
+
+abbrev zsv : List Flag
+zsv = Zero ∷ Sign ∷ Overflow ∷ []
+
+abbrev c : List Flag
+c = Carry ∷ []
+
+abbrev none : List Flag
+none = []
 
 -- 'rE, r=0 to F', and so on: the first bytes of a column
 abbrev column : ℕ → List ℕ
 column low = map (λ r. 16 * r + low) (from 16 0)
 
-unfoldable pub pages : List (FlagSet × List ℕ)
+unfoldable pub pages : List (List Flag × List ℕ)
 pages =
-    (allFlags, from 5 0x12)  -- ADC
-    ∷ (allFlags, from 5 0x02)  -- ADD
-    ∷ (resultFlags, from 5 0x52)  -- AND
-    ∷ (noFlags, 0xF6 ∷ 0xF4 ∷ [])  -- CALL
-    ∷ (carryFlag, 0xEF ∷ [])  -- CCF
-    ∷ (noFlags, 0xB0 ∷ 0xB1 ∷ [])  -- CLR
-    ∷ (resultFlags, 0x60 ∷ 0x61 ∷ [])  -- COM
-    ∷ (allFlags, from 5 0xA2)  -- CP
-    ∷ (resultFlags, 0x00 ∷ 0x01 ∷ [])  -- DEC
-    ∷ (noFlags, 0x8F ∷ [])  -- DI
-    ∷ (noFlags, 0x9F ∷ [])  -- EI
-    ∷ (noFlags, 0x6F ∷ [])  -- IDLE
-    ∷ (resultFlags, 0x20 ∷ 0x21 ∷ column 0xE)  -- INC
-    ∷ (allFlags, 0xBF ∷ [])  -- IRET: all become what they were before the interrupt
-    ∷ (noFlags, 0x30 ∷ column 0xD)  -- JP
-    ∷ (noFlags, column 0xB)  -- JR
-    ∷ (noFlags, column 0xC)  -- LD
-    ∷ (noFlags, column 0x8)
-    ∷ (noFlags, column 0x9)
-    ∷ (noFlags, 0xC7 ∷ 0xD7 ∷ 0xE4 ∷ 0xE5 ∷ 0xE6 ∷ 0xD6 ∷ 0xF5 ∷ 0x87 ∷ 0x97 ∷ [])
-    ∷ (noFlags, 0xC3 ∷ 0xD3 ∷ 0xE7 ∷ 0xF7 ∷ 0xA7 ∷ 0xB7 ∷ [])  -- LDC, LDE
-    ∷ (noFlags, 0xE2 ∷ [])  -- LDCD, LDED
-    ∷ (noFlags, 0xE3 ∷ [])  -- LDCI, LDEI
-    ∷ (noFlags, 0xFF ∷ [])  -- NOP
-    ∷ (resultFlags, from 5 0x42)  -- OR
-    ∷ (noFlags, 0x50 ∷ 0x51 ∷ [])  -- POP
-    ∷ (noFlags, 0x70 ∷ 0x71 ∷ [])  -- PUSH
-    ∷ (carryFlag, 0xCF ∷ [])  -- RCF
-    ∷ (noFlags, 0xAF ∷ [])  -- RET
-    ∷ (allFlags, 0x90 ∷ 0x91 ∷ [])  -- RL
-    ∷ (allFlags, 0x10 ∷ 0x11 ∷ [])  -- RLC
-    ∷ (allFlags, 0xE0 ∷ 0xE1 ∷ [])  -- RR
-    ∷ (allFlags, 0xC0 ∷ 0xC1 ∷ [])  -- RRC
-    ∷ (allFlags, from 5 0x32)  -- SBC
-    ∷ (carryFlag, 0xDF ∷ [])  -- SCF
-    ∷ (noFlags, 0x7F ∷ [])  -- STOP
-    ∷ (allFlags, 0xD0 ∷ 0xD1 ∷ [])  -- SRA
-    ∷ (allFlags, from 5 0x22)  -- SUB
-    ∷ (resultFlags, from 5 0x62)  -- TCM
-    ∷ (resultFlags, from 5 0x72)  -- TM
-    ∷ (resultFlags, from 5 0xB2)  -- XOR
+    (czsv, from 5 0x12)  -- ADC
+    ∷ (czsv, from 5 0x02)  -- ADD
+    ∷ (zsv, from 5 0x52)  -- AND
+    ∷ (none, 0xF6 ∷ 0xF4 ∷ [])  -- CALL
+    ∷ (c, 0xEF ∷ [])  -- CCF
+    ∷ (none, 0xB0 ∷ 0xB1 ∷ [])  -- CLR
+    ∷ (zsv, 0x60 ∷ 0x61 ∷ [])  -- COM
+    ∷ (czsv, from 5 0xA2)  -- CP
+    ∷ (zsv, 0x00 ∷ 0x01 ∷ [])  -- DEC
+    ∷ (none, 0x8F ∷ [])  -- DI
+    ∷ (none, 0x9F ∷ [])  -- EI
+    ∷ (none, 0x6F ∷ [])  -- IDLE
+    ∷ (zsv, 0x20 ∷ 0x21 ∷ column 0xE)  -- INC
+    ∷ (czsv, 0xBF ∷ [])  -- IRET: all become what they were before the interrupt
+    ∷ (none, 0x30 ∷ column 0xD)  -- JP
+    ∷ (none, column 0xB)  -- JR
+    ∷ (none, column 0xC ++ (column 0x8 ++ (column 0x9 ++ (0xC7 ∷ 0xD7 ∷ 0xE4 ∷ 0xE5 ∷ 0xE6 ∷ 0xD6 ∷ 0xF5 ∷ 0x87 ∷ 0x97 ∷ []))))  -- LD
+    ∷ (none, 0xC3 ∷ 0xD3 ∷ 0xE7 ∷ 0xF7 ∷ 0xA7 ∷ 0xB7 ∷ [])  -- LDC, LDE
+    ∷ (none, 0xE2 ∷ [])  -- LDCD, LDED
+    ∷ (none, 0xE3 ∷ [])  -- LDCI, LDEI
+    ∷ (none, 0xFF ∷ [])  -- NOP
+    ∷ (zsv, from 5 0x42)  -- OR
+    ∷ (none, 0x50 ∷ 0x51 ∷ [])  -- POP
+    ∷ (none, 0x70 ∷ 0x71 ∷ [])  -- PUSH
+    ∷ (c, 0xCF ∷ [])  -- RCF
+    ∷ (none, 0xAF ∷ [])  -- RET
+    ∷ (czsv, 0x90 ∷ 0x91 ∷ [])  -- RL
+    ∷ (czsv, 0x10 ∷ 0x11 ∷ [])  -- RLC
+    ∷ (czsv, 0xE0 ∷ 0xE1 ∷ [])  -- RR
+    ∷ (czsv, 0xC0 ∷ 0xC1 ∷ [])  -- RRC
+    ∷ (czsv, from 5 0x32)  -- SBC
+    ∷ (c, 0xDF ∷ [])  -- SCF
+    ∷ (none, 0x7F ∷ [])  -- STOP
+    ∷ (czsv, 0xD0 ∷ 0xD1 ∷ [])  -- SRA
+    ∷ (czsv, from 5 0x22)  -- SUB
+    ∷ (zsv, from 5 0x62)  -- TCM
+    ∷ (zsv, from 5 0x72)  -- TM
+    ∷ (zsv, from 5 0xB2)  -- XOR
     ∷ []
 
 -- how often a first byte stands on these pages
-abbrev occurrences : List (FlagSet × List ℕ) → ℕ → ℕ
+abbrev occurrences : List (List Flag × List ℕ) → ℕ → ℕ
 occurrences [] b = 0
 occurrences (p ∷ r) b = count (eqb b) (p .1) + occurrences r b
 
 -- the flags of its page; none where no page has it
-abbrev affected : List (FlagSet × List ℕ) → ℕ → FlagSet
-affected [] b = noFlags
+abbrev affected : List (List Flag × List ℕ) → ℕ → List Flag
+affected [] b = none
 affected (p ∷ r) b = pick (eqb (count (eqb b) (p .1)) 0) (affected r b) (p .0)
 
+-- flags as a set, by their bits in FLAGS
+abbrev bits : List Flag → ℕ
+bits [] = 0
+bits (g ∷ r) = weightOf g + bits r
+
 abbrev pub printedFlags : ℕ → FlagSet
-printedFlags b = affected pages b
+printedFlags b = record { 0 = bits (affected pages b) }
 
 abbrev pub printedOn : ℕ → ℕ
 printedOn b = occurrences pages b

@@ -16,7 +16,11 @@ use Rattle.base.specs.Formula.{decide}
 use Rattle.base.specs.Lengths.{romLength, recordLength}
 use Rattle.isa.specs.declared.Alu.{Alu}
 use Rattle.isa.specs.declared.Unary.{Unary}
+use Rattle.isa.specs.declared.FlagSet.{FlagSet}
+use Rattle.isa.specs.Map.{aluNames, unaryNames}
 use Rattle.chip.specs.Registers.{keptOf}
+use Rattle.alu.specs.declared.Computed.{Computed}
+use Rattle.alu.specs.Flags.{carry, flagsByte, update}
 use Rattle.alu.specs.Operations.{operate, modify}
 use Rattle.semantics.specs.declared.Mode.the-variants.{Running}
 use Rattle.semantics.specs.declared.State.{State}
@@ -47,10 +51,10 @@ ascii text.[] = []
 ascii (text._∷_ c s) = code c ∷ ascii s
 
 pub data Case : Type 0 where
-  -- an operation on two bytes, with the carry before: its value and flags
-  operates : Alu → ℕ → ℕ → Bool → ℕ → ℕ → Case
+  -- an operation on two bytes, with the carry before: its value, and FLAGS behind it by FLAGS before
+  operates : Alu → ℕ → ℕ → Bool → ℕ → (ℕ → ℕ) → Case
   -- on one byte
-  modifies : Unary → ℕ → ℕ → ℕ → Case
+  modifies : Unary → ℕ → ℕ → (ℕ → ℕ) → Case
   -- the step at an address of the image with this SP leaves a byte at a register
   steps : List ℕ → ℕ → ℕ → ℕ → ℕ → Case
   -- a register that holds a byte is written: what it then holds
@@ -58,9 +62,13 @@ pub data Case : Type 0 where
   -- the verdict on an image and a certificate, and the whole text that is printed
   judges : List ℕ → List ℕ → Verdict → String → Case
 
+-- an operation has this value, and the flags that are named make FLAGS of it
+abbrev pub Leaves : FlagSet → Computed → ℕ → (ℕ → ℕ) → Type 0
+Leaves n r v f = (r .value ≡ v) × ((before : ℕ) → update before n (r .flags) ≡ f before)
+
 abbrev pub CaseHolds : Case → Type 0
-CaseHolds (operates op x y c v f) = operate op x y c ≡ record { value = v; flags = f }
-CaseHolds (modifies op x v f) = (c : Bool) → modify op x c ≡ record { value = v; flags = f }
+CaseHolds (operates op x y c v f) = Leaves (aluNames op) (operate op x y c) v f
+CaseHolds (modifies op x v f) = (c : Bool) → Leaves (unaryNames op) (modify op x c) v f
 CaseHolds (steps image pc sp a v) = (stepOf image (stateAt pc sp) (replicate recordLength 0) .stop ≡ 0) × (getD (stepOf image (stateAt pc sp) (replicate recordLength 0) .state .regs) a 0 ≡ v)
 CaseHolds (stores a old v new) = keptOf a old v ≡ new
 CaseHolds (judges image cert v s) = (verdictOf image cert ≡ v) × (reportText (verdictOf image cert) (certificateOf cert) ≡ ascii s)
@@ -77,21 +85,27 @@ abbrev pub AllHold : List Case → Type 0
 AllHold [] = Unit {0}
 AllHold (c ∷ cs) = CaseHolds c × AllHold cs
 
--- flags: C is 80H, Z 40H, S 20H, V 10H; INC names no C
+-- flags C, Z, S, V, whatever FLAGS was before; INC leaves C as it was
+abbrev pub allFour : Bool → Bool → Bool → Bool → ℕ → ℕ
+allFour c z s v before = flagsByte c z s v
+
+abbrev pub butCarry : Bool → Bool → Bool → ℕ → ℕ
+butCarry z s v before = flagsByte (carry before) z s v
+
 abbrev pub cases : List Case
 cases =
     -- (a) ADC 10H, 03H, C=1: 14H
-    operates Alu.Adc 0x10 0x03 true 0x14 0x00
+    operates Alu.Adc 0x10 0x03 true 0x14 (allFour false false false false)
     -- (b) SUB 21H, 90H: 91H, C S V
-    ∷ operates Alu.Sub 0x21 0x90 false 0x91 0xB0
+    ∷ operates Alu.Sub 0x21 0x90 false 0x91 (allFour true false true true)
     -- (c) SUB 21H, 65H: BCH, C S, V=0
-    ∷ operates Alu.Sub 0x21 0x65 false 0xBC 0xA0
+    ∷ operates Alu.Sub 0x21 0x65 false 0xBC (allFour true false true false)
     -- (d) INC 7FH: 80H, V
-    ∷ modifies Unary.Inc 0x7F 0x80 0x30
+    ∷ modifies Unary.Inc 0x7F 0x80 (butCarry false true true)
     -- (e) RL AAH: 55H, C V
-    ∷ modifies Unary.Rl 0xAA 0x55 0x90
+    ∷ modifies Unary.Rl 0xAA 0x55 (allFour true false false true)
     -- (f) SRA 9AH: CDH, C=0
-    ∷ modifies Unary.Sra 0x9A 0xCD 0x20
+    ∷ modifies Unary.Sra 0x9A 0xCD (allFour false false true false)
     -- (g) CALL 0521H at 0A47H, SP B2H: B0H holds 0AH, B1H 4AH
     ∷ steps callImage 0xA47 0xB2 0xB0 0x0A
     ∷ steps callImage 0xA47 0xB2 0xB1 0x4A
@@ -176,29 +190,29 @@ case-g : CaseHolds (steps callImage 0xA47 0xB2 0xB0 0x0A) × CaseHolds (steps ca
 unfolding opened callImage stateAt resetState
 case-g = ((refl, refl), (refl, refl))
 
-case-a : CaseHolds (operates Alu.Adc 0x10 0x03 true 0x14 0x00)
+case-a : CaseHolds (operates Alu.Adc 0x10 0x03 true 0x14 (allFour false false false false))
 unfolding opened
-case-a = refl
+case-a = (refl, λ before. refl)
 
-case-b : CaseHolds (operates Alu.Sub 0x21 0x90 false 0x91 0xB0)
+case-b : CaseHolds (operates Alu.Sub 0x21 0x90 false 0x91 (allFour true false true true))
 unfolding opened
-case-b = refl
+case-b = (refl, λ before. refl)
 
-case-c : CaseHolds (operates Alu.Sub 0x21 0x65 false 0xBC 0xA0)
+case-c : CaseHolds (operates Alu.Sub 0x21 0x65 false 0xBC (allFour true false true false))
 unfolding opened
-case-c = refl
+case-c = (refl, λ before. refl)
 
-case-d : CaseHolds (modifies Unary.Inc 0x7F 0x80 0x30)
+case-d : CaseHolds (modifies Unary.Inc 0x7F 0x80 (butCarry false true true))
 unfolding opened
-case-d c = refl
+case-d c = (refl, λ before. refl)
 
-case-e : CaseHolds (modifies Unary.Rl 0xAA 0x55 0x90)
+case-e : CaseHolds (modifies Unary.Rl 0xAA 0x55 (allFour true false false true))
 unfolding opened
-case-e c = refl
+case-e c = (refl, λ before. refl)
 
-case-f : CaseHolds (modifies Unary.Sra 0x9A 0xCD 0x20)
+case-f : CaseHolds (modifies Unary.Sra 0x9A 0xCD (allFour false false true false))
 unfolding opened
-case-f c = refl
+case-f c = (refl, λ before. refl)
 
 case-h : CaseHolds (stores 0xE8 0x0F 0x0E 0x0E)
 unfolding opened

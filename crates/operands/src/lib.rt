@@ -63,7 +63,7 @@ pub fn fetch(regs: &Registers, rec: &Inputs, o: Operand) -> Fetched
     }
 }
 
-// The flags that an instruction names are set over FLAGS, as they are in x. Where none is named nothing is stored, which is faster.
+// The flags that an instruction names are set over FLAGS, as they are in x; where none is named FLAGS stays whole.
 pub fn with_flags(regs: &mut Registers, names: FlagSet, x: u8)
     ensures { λ _. ⌜ now (regs .exit) ≡ withFlags (now (regs .entry)) names x ⌝ }
 {

@@ -14,6 +14,8 @@ use semantics::Mode;
 use semantics::Ran;
 use semantics::State;
 use semantics::Stepped;
+use test_support::hex_byte;
+use test_support::hex_digit;
 use test_support::print;
 use test_support::print_hex;
 use test_support::store;
@@ -88,23 +90,14 @@ fn find(text: &[u8], at: usize, end: usize, b: u8) -> usize {
     end
 }
 
-// A hexadecimal digit, or 16.
-fn digit(b: u8) -> u8 {
-    match b {
-        b'0'..=b'9' => b - 48,
-        b'A'..=b'F' => b - 55,
-        _ => 16,
-    }
-}
-
 fn digit_at(text: &[u8], at: usize) -> u8
     ensures { λ r. ⌜ r < 16 ⌝ }
 {
-    digit(byte_at(text, at)) % 16
+    hex_digit(byte_at(text, at)) % 16
 }
 
 fn is_digit(text: &[u8], at: usize) -> bool {
-    digit(byte_at(text, at)) < 16
+    hex_digit(byte_at(text, at)) < 16
 }
 
 fn is_bit(b: u8) -> bool {
@@ -123,7 +116,7 @@ fn is_quad(text: &[u8], at: usize, end: usize) -> bool {
 
 // Two hexadecimal digits.
 fn pair(text: &[u8], at: usize) -> u8 {
-    digit_at(text, at) * 16 + digit_at(text, plus(at, 1))
+    hex_byte(byte_at(text, at), byte_at(text, plus(at, 1)))
 }
 
 // Four hexadecimal digits.

@@ -13,6 +13,7 @@ use Rattle.base.specs.Outcome.{Outcome}
 use Rattle.base.specs.Outcome.Outcome.{value, refused}
 use Rattle.base.specs.Lengths.{romLength}
 use Rattle.isa.specs.declared.FlagSet.{FlagSet}
+use Rattle.isa.specs.Flags.{allFlags}
 use Rattle.isa.specs.declared.Instruction.{Instruction}
 use Rattle.alu.specs.Flags.{condition}
 use Rattle.decode.specs.Decode.{decodeAt}
@@ -167,8 +168,11 @@ module _ (C : Certificate) (image : List ℕ) (ok : Accepts C image) (facts : Ce
     -- IRET
     right-interrupt-return : summaryOf act ns .flow ≡ InterruptReturn → Right C image ld a act ns r rec next c o (executeOf act ns image r rec next)
     right-interrupt-return flow =
-        let w = inv-interrupt-return C image gl facts ns ld r rec a (o .inner) (o .outer) (summaryOf act ns) next c flow rules v in
-        subst (λ (x : Action). Right C image ld a x ns r rec next c o (executeOf x ns image r rec next)) (sym (is-interrupt-return act ns flow))
+        let is = is-interrupt-return act ns flow in
+        let all : ns ≡ allFlags = subst (Shaped ns) is shaped in
+        let whole = inv-interrupt-return C image gl facts ld r rec a (o .inner) (o .outer) (summaryOf act ns) next c flow rules v in
+        let w = subst (λ (n : FlagSet). ReturnRight C image Action.InterruptReturn n byInterrupt ld r rec next c (o .inner) (o .outer)) (sym all) whole in
+        subst (λ (x : Action). Right C image ld a x ns r rec next c o (executeOf x ns image r rec next)) (sym is)
         (right-closing Action.InterruptReturn byInterrupt w tt (w .counter, w .opener) refl (λ s′. refl))
 
     -- by the flow of its summary; rule 22 allows no other

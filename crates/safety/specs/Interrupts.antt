@@ -10,14 +10,15 @@ use lib.Dec.{T}
 use Rattle.base.specs.declared.RomAddr.{RomAddr}
 use Rattle.base.specs.Addresses.{flagsCell, spCell, symCell}
 use Rattle.base.specs.Formula.{Holds}
-use Rattle.isa.specs.declared.FlagSet.{FlagSet}
-use Rattle.chip.specs.Registers.{storeOf, loadOf}
+use Rattle.isa.specs.Flags.{allFlags}
+use Rattle.chip.specs.Registers.{loadOf}
 use Rattle.chip.specs.Interrupts.{interruptsEnabled, setInterruptsOf}
-use Rattle.chip.specs.Laws.{mapped-ram, load-ram, store-other}
+use Rattle.chip.specs.Laws.{mapped-ram, load-ram}
 use Rattle.chip.specs.InterruptLaws.{set-interrupts-enabled, set-interrupts-other}
 use Rattle.alu.specs.Operations.{compareFlags}
+use Rattle.alu.specs.Laws.{update-whole}
 use Rattle.action.specs.declared.Action.{Action}
-use Rattle.semantics.specs.Operands.{raised, flagsOf, pushOf, pushAddress}
+use Rattle.semantics.specs.Operands.{withFlags, raised, flagsOf, pushOf, pushAddress}
 use Rattle.semantics.specs.Execute.{executeOf, returnOf, interruptReturnOf}
 use Rattle.semantics.specs.Step.{vectorOf, entryCost, enterOf}
 use Rattle.certificate.specs.declared.Flow.{Flow}
@@ -28,7 +29,7 @@ use Rattle.safety.specs.Rules.{ramEnd, plainEdge, boundAt, worst, flowAl
 use Rattle.safety.specs.Statement.{Opener, byReset, byCall, byInterrupt, Frame}
 use Rattle.safety.specs.Invariant.{at, Registers, Awake, Claims, reserve, InterruptLink, Link, frameSize, Chain, Invariant}
 use Rattle.safety.specs.Facts.{Global, EntryFacts}
-use Rattle.safety.specs.Memory.{sp-registers, sp-other, sp-same, interrupts-registers, flags-stored, flags-stored-registers}
+use Rattle.safety.specs.Memory.{sp-registers, sp-other, sp-same, interrupts-registers, flags-all, flags-other, flags-registers}
 use Rattle.safety.specs.Chain.{chain-room, chain-top, chain-keep}
 use Rattle.safety.specs.Edge.{CertificateFacts, in-range, now-worst}
 use Rattle.safety.specs.Plain.{RulesOf, claims-kept, first-kept, reserve-main, entry-of}
@@ -54,8 +55,8 @@ record Resumed (r r′ : List ℕ) : Type 0 where
   pub flags : at r′ flagsCell ≡ at r (at r spCell)
 
 resumed : (r rec : List ℕ) → Registers r → at r spCell + 3 ≤ 0xC0 → at r (at r spCell) % 16 ≡ 0
-    → Resumed r (interruptReturnOf r rec .regs) × (interruptReturnOf r rec .next .stop ≡ 0)
-    × (interruptReturnOf r rec .next .pc .0 ≡ at r (at r spCell + 1) * 256 + at r (at r spCell + 2))
+    → Resumed r (interruptReturnOf allFlags r rec .regs) × (interruptReturnOf allFlags r rec .next .stop ≡ 0)
+    × (interruptReturnOf allFlags r rec .next .pc .0 ≡ at r (at r spCell + 1) * 256 + at r (at r spCell + 2))
 unfolding interruptReturnOf returnOf raised
 resumed r rec g hs hw =
     let s = at r spCell in
@@ -63,9 +64,9 @@ resumed r rec g hs hw =
     let ew : w ≡ at r s = load-ram r rec s (omega arith) in
     let hb : w < 256 = let z = g .bytes s in omega arith in
     let hn : w % 16 ≡ 0 = rw ew hw in
-    let r1 = storeOf r flagsCell w in
-    let g1 : Registers r1 = flags-stored-registers r w g hb hn in
-    let c1 : (x : ℕ) → x ≢ flagsCell → at r1 x ≡ at r x = λ x n. store-other r flagsCell w x n in
+    let r1 = withFlags r allFlags w in
+    let g1 : Registers r1 = flags-registers r allFlags w g in
+    let c1 : (x : ℕ) → x ≢ flagsCell → at r1 x ≡ at r x = λ x n. flags-other r allFlags w x n in
     let s1 : at r1 spCell ≡ s = c1 spCell (omega arith) in
     let r2 = raised r1 1 in
     let g2 : Registers r2 = sp-registers r1 ((at r1 spCell + 1) % 256) g1 (omega arith) in
@@ -86,7 +87,7 @@ resumed r rec g hs hw =
         pointer = c4 spCell (omega arith) ∙ s3;
         flags =
             c4 flagsCell (omega arith) ∙ sp-other r2 ((at r2 spCell + 2) % 256) flagsCell (omega arith)
-            ∙ sp-other r1 ((at r1 spCell + 1) % 256) flagsCell (omega arith) ∙ flags-stored r w g hb hn ∙ ew;
+            ∙ sp-other r1 ((at r1 spCell + 1) % 256) flagsCell (omega arith) ∙ flags-all r w g ∙ update-whole (at r flagsCell) w hb hn ∙ ew;
       },
       rw (mapped-ram s (omega arith), word .1) refl,
       word .0 ∙ omega arith,
@@ -258,21 +259,21 @@ module _ (C : Certificate) (image : List ℕ) (global : Global C image) (more : 
             (entered r r1 (pushOf r1 (flagsOf r1) .regs) (pc .0) (v .registers) p1 (q .1) (omega arith) (omega arith));
       }
 
-  -- IRET --
+  -- IRET, which names all four flags --
 
-  return-interrupted : (ns : FlagSet) (r rec : List ℕ) (a c : ℕ) (next : RomAddr) (f g : Frame) (rest : List Frame) → Invariant C true r a f (g ∷ rest)
+  return-interrupted : (r rec : List ℕ) (a c : ℕ) (next : RomAddr) (f g : Frame) (rest : List Frame) → Invariant C true r a f (g ∷ rest)
       → C .routine a ≡ 2 → C .depth a ≡ 0 → Holds (paid C a (plainEdge 0) c (λ v. 0)) → f .opener ≡ byInterrupt
       → InterruptLink C r (at r spCell + C .depth a) f g → Chain C r (at r spCell + C .depth a + 3 + C .depth (f .returnTo)) g rest
-      → ReturnRight C image Action.InterruptReturn ns byInterrupt true r rec next c f (g ∷ rest)
+      → ReturnRight C image Action.InterruptReturn allFlags byInterrupt true r rec next c f (g ∷ rest)
   unfolding executeOf interruptReturnOf
-  return-interrupted ns r rec a c next f g rest v h2 hd m q l ch =
+  return-interrupted r rec a c next f g rest v h2 hd m q l ch =
       let e = entry-of C image global true r a f (g ∷ rest) v in
       let s = at r spCell in
       let ht = global .stackTop in
       let tp = chain-top C r (s + C .depth a + 3 + C .depth (f .returnTo)) g rest ch in
       let e0 : s + C .depth a ≡ s = omega arith in
       let done = resumed r rec (v .registers) (omega arith) (rw e0 at (l .flags)) in
-      let r′ = interruptReturnOf r rec .regs in
+      let r′ = interruptReturnOf allFlags r rec .regs in
       let re : Resumed r r′ = done .0 in
       let es = re .pointer in
       let hm = v .home in
@@ -312,24 +313,24 @@ module _ (C : Certificate) (image : List ℕ) (global : Global C image) (more : 
       }
 
   -- IRET, from the rules that it must meet
-  interrupt-return-now : (ns : FlagSet) (ld : Bool) (r rec : List ℕ) (a c : ℕ) (next : RomAddr) (f : Frame) (fs : List Frame) → Invariant C ld r a f fs
+  interrupt-return-now : (ld : Bool) (r rec : List ℕ) (a c : ℕ) (next : RomAddr) (f : Frame) (fs : List Frame) → Invariant C ld r a f fs
       → C .routine a ≡ 2 → C .depth a ≡ 0 → Holds (paid C a (plainEdge 0) c (λ v. 0))
-      → ReturnRight C image Action.InterruptReturn ns byInterrupt ld r rec next c f fs
-  interrupt-return-now ns false r rec a c next f fs v h2 hd m = let d = v .stack .unloaded in absurd (omega arith)
-  interrupt-return-now ns true r rec a c next f [] v h2 hd m = let z = v .stack .chain .1 in let h = v .home in absurd (omega arith)
-  interrupt-return-now ns true r rec a c next f (g ∷ rest) v h2 hd m = go (f .opener) refl (v .stack .chain .1) (v .stack .chain .2)
+      → ReturnRight C image Action.InterruptReturn allFlags byInterrupt ld r rec next c f fs
+  interrupt-return-now false r rec a c next f fs v h2 hd m = let d = v .stack .unloaded in absurd (omega arith)
+  interrupt-return-now true r rec a c next f [] v h2 hd m = let z = v .stack .chain .1 in let h = v .home in absurd (omega arith)
+  interrupt-return-now true r rec a c next f (g ∷ rest) v h2 hd m = go (f .opener) refl (v .stack .chain .1) (v .stack .chain .2)
     where
       go : (o : Opener) → f .opener ≡ o → Link C o r (at r spCell + C .depth a) f g
           → Chain C r (at r spCell + C .depth a + frameSize o + C .depth (f .returnTo)) g rest
-          → ReturnRight C image Action.InterruptReturn ns byInterrupt true r rec next c f (g ∷ rest)
+          → ReturnRight C image Action.InterruptReturn allFlags byInterrupt true r rec next c f (g ∷ rest)
       go byReset q l ch = absurd l
       go byCall q l ch = let z = l .callee in let h = v .home in absurd (omega arith)
-      go byInterrupt q l ch = return-interrupted ns r rec a c next f g rest v h2 hd m q l ch
+      go byInterrupt q l ch = return-interrupted r rec a c next f g rest v h2 hd m q l ch
 
-  pub inv-interrupt-return : (ns : FlagSet) (ld : Bool) (r rec : List ℕ) (a : ℕ) (f : Frame) (fs : List Frame) (S : Summary) (next : RomAddr) (c : ℕ)
+  pub inv-interrupt-return : (ld : Bool) (r rec : List ℕ) (a : ℕ) (f : Frame) (fs : List Frame) (S : Summary) (next : RomAddr) (c : ℕ)
       → S .flow ≡ InterruptReturn → RulesOf C a S (next .0) c → Invariant C ld r a f fs
-      → ReturnRight C image Action.InterruptReturn ns byInterrupt ld r rec next c f fs
+      → ReturnRight C image Action.InterruptReturn allFlags byInterrupt ld r rec next c f fs
   unfolding rule22
-  inv-interrupt-return ns ld r rec a f fs S next c flow rules v =
+  inv-interrupt-return ld r rec a f fs S next c flow rules v =
       let z = end-rules C image global more a S (next .0) c InterruptReturn flow rules in
-      interrupt-return-now ns ld r rec a c next f fs v (subst (λ (k : Flow). Holds (flowAllowed (C .routine a) k)) flow (rules .r22 .1)) (z .0) (z .1)
+      interrupt-return-now ld r rec a c next f fs v (subst (λ (k : Flow). Holds (flowAllowed (C .routine a) k)) flow (rules .r22 .1)) (z .0) (z .1)

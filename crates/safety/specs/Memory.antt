@@ -4,20 +4,21 @@ use mathlib.Core.Path.{_≡_, refl, sym, _∙_}
 use mathlib.Core.Logic.{_≢_, _⊎_, inl, inr, ⊎-elim}
 use mathlib.Core.Bool.{Bool, true, false, _||_, _&&_}
 use mathlib.Core.List.{List, [], _∷_, map}
-use Prim.Native.Nat.{ℕ, _%_, _<_}
+use Prim.Native.Nat.{ℕ, _<_}
 use native.Mathlib.Omega.{arith}
 use lib.Dec.{T, eqb, ltb, eqb→eq, ltb→lt}
-use lib.Bits.{bitAnd}
 use lib.ListN.{getD, set, length-set}
 use lib.Seq.{getD-set-same, getD-set-other}
 use Rattle.base.specs.Addresses.{flagsCell, spCell}
-use Rattle.base.specs.Formula.{of-true, sound, test, eq, _&_, _⇒_, forallBelow}
+use Rattle.base.specs.ChoiceLaws.{pick-has}
+use Rattle.base.specs.Formula.{of-true, sound, test, eq, _&_}
 use Rattle.base.specs.Cells.{set-cells}
-use Rattle.chip.specs.Registers.{mappedOf, keptBits, keptOf, writtenOf, loadOf, storeOf, among, keptRows, readOnly, testRegister}
-use Rattle.chip.specs.Laws.{load-byte, store-length, store-other, store-same, store-bytes}
+use Rattle.chip.specs.Registers.{mappedOf, loadOf, storeOf, among, keptRows, readOnly, testRegister}
+use Rattle.chip.specs.Laws.{load-byte, store-length, store-other, store-bytes}
 use Rattle.chip.specs.Interrupts.{setInterruptsOf}
 use Rattle.chip.specs.InterruptLaws.{set-interrupts-length, set-interrupts-other, set-interrupts-bytes}
 use Rattle.isa.specs.declared.FlagSet.{FlagSet}
+use Rattle.isa.specs.Flags.{allFlags}
 use Rattle.alu.specs.Flags.{update}
 use Rattle.alu.specs.Laws.{update-bound, update-low}
 use Rattle.semantics.specs.Operands.{withFlags}
@@ -91,43 +92,34 @@ sp-other r s x n = getD-set-other r spCell x s 0 n
 pub sp-same : (r : List ℕ) (s : ℕ) → Registers r → at (set r spCell s) spCell ≡ s
 sp-same r s g = getD-set-same r spCell s 0 (let z = g .size in omega arith)
 
--- the named flags are set
-pub flags-same : (r : List ℕ) (ns : FlagSet) (v : ℕ) → Registers r → at (withFlags r ns v) flagsCell ≡ update (at r flagsCell) ns v
+-- the named flags are set: where none is named nothing changes, where all four are, FLAGS has those of v
+pub flags-none : (r : List ℕ) (ns : FlagSet) (v : ℕ) → ns .0 ≡ 0 → withFlags r ns v ≡ r
 unfolding withFlags
-flags-same r ns v g = getD-set-same r flagsCell (update (at r flagsCell) ns v) 0 (let z = g .size in omega arith)
+flags-none r ns v e = rw e
+
+pub flags-all : (r : List ℕ) (v : ℕ) → Registers r → at (withFlags r allFlags v) flagsCell ≡ update (at r flagsCell) allFlags v
+unfolding withFlags
+flags-all r v g = getD-set-same r flagsCell (update (at r flagsCell) allFlags v) 0 (let z = g .size in omega arith)
 
 pub flags-other : (r : List ℕ) (ns : FlagSet) (v x : ℕ) → x ≢ flagsCell → at (withFlags r ns v) x ≡ at r x
 unfolding withFlags
-flags-other r ns v x n = getD-set-other r flagsCell x (update (at r flagsCell) ns v) 0 n
+flags-other r ns v x n =
+    pick-has (λ (l : List ℕ). at l x ≡ at r x) (eqb (ns .0) 0) _ _ (λ _. refl) (λ _. getD-set-other r flagsCell x (update (at r flagsCell) ns v) 0 n)
 
 pub flags-registers : (r : List ℕ) (ns : FlagSet) (v : ℕ) → Registers r → Registers (withFlags r ns v)
 unfolding withFlags
-flags-registers r ns v g =
-    let u = update (at r flagsCell) ns v in
-    record {
-      size = length-set r flagsCell u ∙ g .size;
-      bytes = set-cells (λ (k x : ℕ). x < 256) r flagsCell u (g .bytes) (update-bound (at r flagsCell) ns v (g .bytes flagsCell));
-      flags = rw (flags-same r ns v g) (update-low (at r flagsCell) ns v (g .flags));
-    }
+flags-registers r ns v g = pick-has Registers (eqb (ns .0) 0) _ _ (λ _. g) (λ _. record {
+  size = length-set r flagsCell u ∙ g .size;
+  bytes = set-cells (λ (k x : ℕ). x < 256) r flagsCell u (g .bytes) (update-bound (at r flagsCell) ns v);
+  flags = rw (getD-set-same r flagsCell u 0 (let z = g .size in omega arith)) (update-low (at r flagsCell) ns v);
+})
+  where
+    u : ℕ
+    u = update (at r flagsCell) ns v
 
 pub interrupts-registers : (r : List ℕ) (on : Bool) → Registers r → Registers (setInterruptsOf r on)
 interrupts-registers r on g = record {
   size = set-interrupts-length r on ∙ g .size;
   bytes = set-interrupts-bytes r on (g .bytes);
   flags = rw (set-interrupts-other r on flagsCell (omega arith)) (g .flags);
-}
-
--- FLAGS stored by IRET: a byte whose low nibble is 0 is kept whole
-high-nibble : (v : ℕ) → v < 256 → v % 16 ≡ 0 → bitAnd v 0xF0 ≡ v
-high-nibble v h z = sound (forallBelow 256 (λ (v : ℕ). eq (v % 16) 0 ⇒ eq (bitAnd v 0xF0) v)) tt v h z
-
-pub flags-stored : (r : List ℕ) (v : ℕ) → Registers r → v < 256 → v % 16 ≡ 0 → at (storeOf r flagsCell v) flagsCell ≡ v
-unfolding keptOf writtenOf keptBits
-flags-stored r v g h z = store-same r flagsCell v (let y = g .size in omega arith) ∙ high-nibble v h z
-
-pub flags-stored-registers : (r : List ℕ) (v : ℕ) → Registers r → v < 256 → v % 16 ≡ 0 → Registers (storeOf r flagsCell v)
-flags-stored-registers r v g h z = record {
-  size = store-length r flagsCell v ∙ g .size;
-  bytes = store-bytes r flagsCell v (g .bytes) h;
-  flags = rw (flags-stored r v g h z) z;
 }

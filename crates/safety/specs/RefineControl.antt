@@ -78,7 +78,7 @@ module _ (C : Certificate) (image : List ℕ) (gl : Global C image) (size : leng
   does-carry c s rules =
       let u = flagsByte (carryChanged c (carry (at r flagsCell))) false false false in
       does-onward C image gl a e (summaryOf (Action.Carry c) ns) (Action.Carry c) ns r rec (withFlags r ns u) next true refl refl
-      (refines-flags C image gl a e (summaryOf (Action.Carry c) ns) r r ns u refl refl nothing (flags-set ns r r u (pre .registers) refl)) tt
+      (refines-flags C image gl a e (summaryOf (Action.Carry c) ns) r r ns u refl refl nothing (flags-set ns r r u refl)) tt
 
   -- EI and DI
   switched : (on : Bool) → enabledAfter (switching on) (interruptsEnabled r) ≡ on

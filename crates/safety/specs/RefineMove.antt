@@ -43,7 +43,7 @@ use Rattle.safety.specs.Rules.{rule23, rule24}
 use Rattle.safety.specs.Statement.{InTable}
 use Rattle.safety.specs.Invariant.{at, Registers, FlagsAfter, Refines, Before, readTable, writeTable, tableOf, Does, Small, Shaped}
 use Rattle.safety.specs.Facts.{Global, EntryFacts}
-use Rattle.safety.specs.Memory.{Input, load-small, store-registers, flags-same}
+use Rattle.safety.specs.Memory.{Input, load-small, store-registers, flags-all}
 use Rattle.safety.specs.StepRules.{StepRules}
 use Rattle.safety.specs.RefineOperands.{HasPlace, Allowed, anyPlace, writablePlace, Gives, Written, may-read, may-write, fetch-ram, fetch-byte, place-mapped, fetch-mapped}
 use Rattle.safety.specs.RefineOperands.{in-read-table, in-write-table, nothing-written, place-written, refines-beyond, refines-written, refines-flags, does-onward, flags-kept, flags-set}
@@ -52,21 +52,21 @@ use Rattle.safety.specs.RefineOperands.{in-read-table, in-write-table, n
 binary-flags : (r rec : List ℕ) (ns : FlagSet) (op : Alu) (x : RegAddr) (s : Operand) (c : Bool) → Registers r → (op ≡ Cp → ns ≡ allFlags)
     → FlagsAfter (flagEffect ns (binaryFlags op (Register x) s)) r (withFlags r ns (operate op (loadOf r rec (x .0)) (fetchOf r rec s .value) c .flags))
 unfolding fetchOf
-binary-flags r rec ns Cp x (Register y) c g all = flags-set ns r r _ g refl
-binary-flags r rec ns Cp x (Indirect p o) c g all = flags-set ns r r _ g refl
+binary-flags r rec ns Cp x (Register y) c g all = flags-set ns r r _ refl
+binary-flags r rec ns Cp x (Indirect p o) c g all = flags-set ns r r _ refl
 binary-flags r rec ns Cp x (Immediate k) c g all =
     let v = operate Cp (loadOf r rec (x .0)) k c .flags in
     subst (λ (m : FlagSet). FlagsAfter (flagEffect m (Compared x k)) r (withFlags r m v)) (sym (all refl))
-    (λ h. flags-same r allFlags v g ∙ compare-leaves (at r flagsCell) (loadOf r rec (x .0)) k c ∙ rw (load-ram r rec (x .0) h))
-binary-flags r rec ns Add x s c g all = flags-set ns r r _ g refl
-binary-flags r rec ns Adc x s c g all = flags-set ns r r _ g refl
-binary-flags r rec ns Sub x s c g all = flags-set ns r r _ g refl
-binary-flags r rec ns Sbc x s c g all = flags-set ns r r _ g refl
-binary-flags r rec ns Or x s c g all = flags-set ns r r _ g refl
-binary-flags r rec ns And x s c g all = flags-set ns r r _ g refl
-binary-flags r rec ns Tcm x s c g all = flags-set ns r r _ g refl
-binary-flags r rec ns Tm x s c g all = flags-set ns r r _ g refl
-binary-flags r rec ns Xor x s c g all = flags-set ns r r _ g refl
+    (λ h. flags-all r v g ∙ compare-leaves (at r flagsCell) (loadOf r rec (x .0)) k c ∙ rw (load-ram r rec (x .0) h))
+binary-flags r rec ns Add x s c g all = flags-set ns r r _ refl
+binary-flags r rec ns Adc x s c g all = flags-set ns r r _ refl
+binary-flags r rec ns Sub x s c g all = flags-set ns r r _ refl
+binary-flags r rec ns Sbc x s c g all = flags-set ns r r _ refl
+binary-flags r rec ns Or x s c g all = flags-set ns r r _ refl
+binary-flags r rec ns And x s c g all = flags-set ns r r _ refl
+binary-flags r rec ns Tcm x s c g all = flags-set ns r r _ refl
+binary-flags r rec ns Tm x s c g all = flags-set ns r r _ refl
+binary-flags r rec ns Xor x s c g all = flags-set ns r r _ refl
 
 -- what the summaries say of the stored values
 modify-gives : (r rec : List ℕ) (op : Unary) (d : Operand) (c : Bool)
@@ -147,7 +147,7 @@ module _ (C : Certificate) (image : List ℕ) (gl : Global C image) (a : ℕ) (e
       let w = written-at d (modifyValue op) (m .value) p target bound (modify-gives r rec op d carryNow) in
       does-onward C image gl a e _ (Action.Modify op d) ns r rec _ next (placeOf r rec d .ok) refl (place-ok d p target)
       (refines-flags C image gl a e _ r (storeOf r (placeOf r rec d .addr .0) (m .value)) ns (m .flags) refl refl w
-      (flags-set ns r _ (m .flags) (w .registers) (w .others flagsCell (gl .flagsClass))))
+      (flags-set ns r _ (m .flags) (w .others flagsCell (gl .flagsClass))))
       (write-table d (modifyValue op) 0 target)
 
   pub does-modify : (op : Unary) (d : Operand) → Shaped ns (Action.Modify op d) → StepRules C a (summaryOf (Action.Modify op d) ns)
@@ -170,7 +170,7 @@ module _ (C : Certificate) (image : List ℕ) (gl : Global C image) (a : ℕ) (e
       let may = may-write C a (Register x) (binaryValue op s) (k .r23 .1 .1 .0) (k .r24 .1 .1 .0) in
       let w = written-at (Register x) (binaryValue op s) (m .value) tt may bound (binary-gives r rec op x s y carryNow) in
       refines-flags C image gl a e _ r (storeOf r (x .0) (m .value)) ns (m .flags) refl refl w
-      (flags-set ns r _ (m .flags) (w .registers) (w .others flagsCell (gl .flagsClass)))
+      (flags-set ns r _ (m .flags) (w .others flagsCell (gl .flagsClass)))
   binary-refines false op x s h all k =
       refines-flags C image gl a e _ r r ns _ refl refl (nothing-written C a r (pre .registers)) (binary-flags r rec ns op x s carryNow (pre .registers) all)
 

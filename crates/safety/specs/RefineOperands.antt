@@ -18,7 +18,7 @@ use Rattle.chip.specs.Laws.{load-ram, mapped-ram, store-other, store-ram}
 use Rattle.chip.specs.Interrupts.{interruptsEnabled}
 use Rattle.chip.specs.InterruptLaws.{enabled-same}
 use Rattle.isa.specs.declared.FlagSet.{FlagSet}
-use Rattle.alu.specs.Laws.{update-none, condition-never}
+use Rattle.alu.specs.Laws.{condition-never}
 use Rattle.action.specs.declared.Operand.{Operand}
 use Rattle.action.specs.declared.Operand.the-variants.{Register, Indirect, Immediate}
 use Rattle.action.specs.declared.Action.{Action}
@@ -39,7 +39,7 @@ use Rattle.safety.specs.Rules.Change.{unchanged, changed}
 use Rattle.safety.specs.Statement.{InTable, PointersRight}
 use Rattle.safety.specs.Invariant.{at, Registers, Claims, Effect, FlagsAfter, spAfter, enabledAfter, Refines, readTable, writeTable, tableOf, Does, Small}
 use Rattle.safety.specs.Facts.{Global, EntryFacts, Writable, is-writable}
-use Rattle.safety.specs.Memory.{Input, load-small, store-registers, flags-registers, flags-same, flags-other}
+use Rattle.safety.specs.Memory.{Input, load-small, store-registers, flags-registers, flags-none, flags-other}
 
 -- an operand that has a place
 abbrev pub HasPlace : Operand → Type 0
@@ -86,11 +86,11 @@ pub flags-kept : (ns : FlagSet) (r r′ : List ℕ) → at r′ flagsCell ≡ at
 flags-kept ns r r′ k = pick-has (λ (f : FlagEffect). FlagsAfter f r r′) (eqb (ns .0) 0) Kept Changed (λ _. k) (λ _. tt)
 
 -- FLAGS, left alone by the write, once the flags that an instruction names are set
-pub flags-set : (ns : FlagSet) (r r′ : List ℕ) (v : ℕ) → Registers r′ → at r′ flagsCell ≡ at r flagsCell
+pub flags-set : (ns : FlagSet) (r r′ : List ℕ) (v : ℕ) → at r′ flagsCell ≡ at r flagsCell
     → FlagsAfter (flagEffect ns Changed) r (withFlags r′ ns v)
-flags-set ns r r′ v g k =
+flags-set ns r r′ v k =
     pick-has (λ (f : FlagEffect). FlagsAfter f r (withFlags r′ ns v)) (eqb (ns .0) 0) Kept Changed
-    (λ e. flags-same r′ ns v g ∙ update-none (at r′ flagsCell) ns v (eqb→eq (ns .0) 0 (of-true (eqb (ns .0) 0) e)) ∙ k) (λ _. tt)
+    (λ e. ap (λ (l : List ℕ). at l flagsCell) (flags-none r′ ns v (eqb→eq (ns .0) 0 (of-true (eqb (ns .0) 0) e))) ∙ k) (λ _. tt)
 
 module _ (C : Certificate) (a : ℕ) where
   -- rules 23 and 24 of an operand: its register is mapped, its pointer's reach lies in one table, and a rule holds of its places

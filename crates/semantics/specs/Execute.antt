@@ -138,10 +138,10 @@ unfoldable pub returnOf : List ℕ → List ℕ → Executed
 returnOf regs rec =
     record { regs = raised regs 2; next = goesOn (wordMapped (spOf regs)) (romAddr (wordAt regs rec (spOf regs))) }
 
--- IRET: FLAGS from @SP, SP + 1; then as RET; then SYM.2 is 1
-unfoldable pub interruptReturnOf : List ℕ → List ℕ → Executed
-interruptReturnOf regs rec =
-    let r = raised (storeOf regs flagsCell (loadOf regs rec (spOf regs))) 1 in
+-- IRET: FLAGS, of which it names all four, from @SP, SP + 1; then as RET; then SYM.2 is 1
+unfoldable pub interruptReturnOf : FlagSet → List ℕ → List ℕ → Executed
+interruptReturnOf n regs rec =
+    let r = raised (withFlags regs n (loadOf regs rec (spOf regs))) 1 in
     let t = returnOf r rec in
     record { regs = setInterruptsOf (t .regs) true; next = goesOn (mappedOf (spOf regs) && wordMapped (spOf r)) (t .next .pc) }
 
@@ -175,7 +175,7 @@ executeOf (Action.JumpPair p) n image regs rec pc = jumpPairOf p regs rec
 executeOf (Action.Call to) n image regs rec pc = callOf to regs pc
 executeOf (Action.CallPair p) n image regs rec pc = callPairOf p regs rec pc
 executeOf Action.Return n image regs rec pc = returnOf regs rec
-executeOf Action.InterruptReturn n image regs rec pc = interruptReturnOf regs rec
+executeOf Action.InterruptReturn n image regs rec pc = interruptReturnOf n regs rec
 executeOf (Action.Carry change) n image regs rec pc = carryOf change n regs pc
 executeOf (Action.Interrupts on) n image regs rec pc = record { regs = setInterruptsOf regs on; next = goesOn true pc }
 executeOf Action.Idle n image regs rec pc = record { regs = regs; next = leaves pc Idle 0 }

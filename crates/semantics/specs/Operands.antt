@@ -3,9 +3,11 @@
 use Prim.Native.Nat.{ℕ, _+_, _*_, _/_, _%_}
 use mathlib.Core.Bool.{Bool, true, false, _&&_}
 use mathlib.Core.List.{List}
+use lib.Dec.{eqb}
 use lib.ListN.{getD, set}
 use Rattle.base.specs.declared.RomAddr.{RomAddr}
 use Rattle.base.specs.Addresses.{regAddr, flagsCell, spCell}
+use Rattle.base.specs.Choice.{pick}
 use Rattle.chip.specs.Registers.{mappedOf, loadOf, storeOf}
 use Rattle.isa.specs.declared.FlagSet.{FlagSet}
 use Rattle.alu.specs.Flags.{update}
@@ -38,9 +40,9 @@ fetchOf regs rec (Register a) = fetchPlace regs rec (placeOf regs rec (Register 
 fetchOf regs rec (Indirect p x) = fetchPlace regs rec (placeOf regs rec (Indirect p x))
 fetchOf regs rec (Immediate n) = record { value = n; ok = true }
 
--- the flags that an instruction names, n, are set over FLAGS as it stands, as they are in x
+-- the flags that an instruction names, n, are set over FLAGS as it stands, as they are in x; where none is named FLAGS stays whole
 unfoldable pub withFlags : List ℕ → FlagSet → ℕ → List ℕ
-withFlags regs n x = set regs flagsCell (update (getD regs flagsCell 0) n x)
+withFlags regs n x = pick (eqb (n .0) 0) regs (set regs flagsCell (update (getD regs flagsCell 0) n x))
 
 -- the registers after a push, and whether SP pointed to a mapped register
 pub record Pushed : Type 0 where

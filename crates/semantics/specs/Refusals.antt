@@ -9,7 +9,7 @@ use native.Mathlib.Omega.{arith}
 use lib.ListN.{length, getD}
 use lib.Dec.{eqb, ltb}
 use Rattle.base.specs.declared.RomAddr.{RomAddr}
-use Rattle.base.specs.Addresses.{romAddr, flagsCell, stopconCell}
+use Rattle.base.specs.Addresses.{romAddr, stopconCell}
 use Rattle.base.specs.ChoiceLaws.{pick-has}
 use Rattle.base.specs.Outcome.{Outcome}
 use Rattle.base.specs.Outcome.Outcome.{value, refused}
@@ -19,14 +19,14 @@ use Rattle.isa.specs.declared.Instruction.{Instruction}
 use Rattle.decode.specs.Decode.{decodeAt}
 use Rattle.decode.specs.Refusals.{decode-number}
 use Rattle.action.specs.declared.Action.{Action}
-use Rattle.chip.specs.Registers.{mappedOf, loadOf, storeOf}
+use Rattle.chip.specs.Registers.{mappedOf, loadOf}
 use Rattle.semantics.specs.declared.Mode.{Mode}
 use Rattle.semantics.specs.declared.Mode.the-variants.{Running, Idle, Stopped}
 use Rattle.semantics.specs.declared.Next.{Next}
 use Rattle.semantics.specs.declared.State.{State}
 use Rattle.semantics.specs.declared.Stepped.{Stepped}
 use Rattle.semantics.specs.declared.Ran.{Ran}
-use Rattle.semantics.specs.Operands.{placeOf, fetchOf, lowered, raised, storeTop, pushOf, pushAddress, wordAt, wordMapped, spOf, flagsOf}
+use Rattle.semantics.specs.Operands.{placeOf, fetchOf, withFlags, lowered, raised, storeTop, pushOf, pushAddress, wordAt, wordMapped, spOf, flagsOf}
 use Rattle.semantics.specs.Execute.{codeAddress, Executed, goesOn, inRom, leaves, binaryOf, modifyOf, loadInto, pushOperand, popOperand, loadCodeOf, loadCodeStepOf}
 use Rattle.semantics.specs.Execute.{jumpOf, jumpPairOf, callOf, callPairOf, returnOf, interruptReturnOf, carryOf, stopOf, executeOf}
 use Rattle.semantics.specs.Step.{Acted, entryDue, finishOf, enterOf, entryCost, afterDecode, instructionAct, modeAct, actAfterRequests, requested, actedOf, settled, stepOf}
@@ -64,7 +64,7 @@ execute-ends (Action.Call to) n image regs rec pc = goes-on (pushAddress regs pc
 execute-ends (Action.CallPair p) n image regs rec pc = goes-on (pushAddress regs pc .ok && wordMapped (p .0)) pc
 execute-ends Action.Return n image regs rec pc = goes-on (wordMapped (spOf regs)) pc
 execute-ends Action.InterruptReturn n image regs rec pc =
-    let r = raised (storeOf regs flagsCell (loadOf regs rec (spOf regs))) 1 in
+    let r = raised (withFlags regs n (loadOf regs rec (spOf regs))) 1 in
     goes-on (mappedOf (spOf regs) && wordMapped (spOf r)) pc
 execute-ends (Action.Carry change) n image regs rec pc = inl refl
 execute-ends (Action.Interrupts on) n image regs rec pc = inl refl

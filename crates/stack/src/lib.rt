@@ -4,12 +4,12 @@ ghost use mathlib.Core.Path.{_≡_};
 ghost use Rattle.semantics.specs.Operands.{lowered, raised, storeTop, pushOf, pushAddress};
 ghost use Rattle.semantics.specs.Execute.{pushOperand, popOperand, callOf, callPairOf, returnOf, interruptReturnOf};
 use action::Operand;
-use base::FLAGS;
 use base::RegAddr;
 use base::RomAddr;
 use base::SP_INDEX;
 use chip::Inputs;
 use chip::Registers;
+use isa::FlagSet;
 use semantics::Next;
 
 // SP is lowered by one.
@@ -113,14 +113,14 @@ pub fn return_from_call(regs: &mut Registers, rec: &Inputs) -> Next
     operands::goes_on(operands::word_mapped(top), to)
 }
 
-// IRET: FLAGS from the stack, then as RET; SYM.2 becomes 1.
-pub fn interrupt_return(regs: &mut Registers, rec: &Inputs) -> Next
-    ensures regs { λ _. ⌜ now (regs .exit) ≡ interruptReturnOf (now (regs .entry)) (now (rec .entry)) .regs ⌝ }
-    ensures next { λ r. ⌜ r ≡ interruptReturnOf (now (regs .entry)) (now (rec .entry)) .next ⌝ }
+// IRET: the flags that it names from the stack, then as RET; SYM.2 becomes 1.
+pub fn interrupt_return(names: FlagSet, regs: &mut Registers, rec: &Inputs) -> Next
+    ensures regs { λ _. ⌜ now (regs .exit) ≡ interruptReturnOf names (now (regs .entry)) (now (rec .entry)) .regs ⌝ }
+    ensures next { λ r. ⌜ r ≡ interruptReturnOf names (now (regs .entry)) (now (rec .entry)) .next ⌝ }
 {
     let top = RegAddr(regs[SP_INDEX]);
     let f = chip::load(regs, rec, top);
-    chip::store(regs, RegAddr(FLAGS), f);
+    operands::with_flags(regs, names, f);
     raise(regs, 1);
     let high = RegAddr(regs[SP_INDEX]);
     let t = return_from_call(regs, rec);

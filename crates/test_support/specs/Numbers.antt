@@ -1,10 +1,21 @@
--- Numbers in a list of bytes, high byte first; a byte past the end counts as 0.
+-- A hexadecimal digit's value. Numbers in a list of bytes, high byte first; a byte past the end counts as 0.
 -- Assumes nothing.
-use Prim.Native.Nat.{ℕ, _+_, _*_, _≤_}
+use Prim.Native.Nat.{ℕ, _+_, _*_, _%_, _≤_}
 use mathlib.Core.Path.{_≡_}
+use mathlib.Core.Bool.{_&&_}
 use mathlib.Core.List.{List}
 use native.Mathlib.Omega.{arith}
+use lib.Dec.{leb}
 use lib.ListN.{length, getD, List·getD-eq-default}
+use Rattle.base.specs.Choice.{pick}
+
+-- of a character: 0 to 9, A to F or a to f
+abbrev pub digitOf : ℕ → ℕ
+digitOf b =
+    pick (leb 0x30 b && leb b 0x39) (b % 16)
+    (pick (leb 0x41 b && leb b 0x46) (b % 16 + 9)
+    (pick (leb 0x61 b && leb b 0x66) (b % 16 + 9)
+    16))
 
 abbrev pub wordAt : List ℕ → ℕ → ℕ
 wordAt s at = getD s at 0 * 256 + getD s (at + 1) 0

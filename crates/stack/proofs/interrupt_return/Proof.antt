@@ -1,23 +1,23 @@
--- IRET: FLAGS is popped, then RET's two bytes, then SYM.2 is set; refused where a byte was not mapped.
+-- IRET: the flags that it names are popped, then RET's two bytes, then SYM.2 is set; refused where a byte was not mapped.
 use Rattle.semantics.specs.Execute.{interruptReturnOf}
 use borrow.Author.Needs.{needs}
 use Rattle.stack.proofs.interrupt_return.Statement.{statement}
 use Rattle.stack.proofs.interrupt_return.Tie as tie
 
-element-copy-out-t10 : tie.Need-element-copy-out-t10
-element-copy-out-t10 c = search needs
+element-copy-out-t11 : tie.Need-element-copy-out-t11
+element-copy-out-t11 c = search needs
 
 load-requires : tie.Need-load-requires
 load-requires c κs = search needs
 
-store-requires : tie.Need-store-requires
-store-requires c κs = search needs
+with-flags-requires : tie.Need-with-flags-requires
+with-flags-requires c κs = search needs
 
 raise-requires : tie.Need-raise-requires
 raise-requires c κs = search needs
 
-element-copy-out-t10-2 : tie.Need-element-copy-out-t10-2
-element-copy-out-t10-2 c = search needs
+element-copy-out-t11-2 : tie.Need-element-copy-out-t11-2
+element-copy-out-t11-2 c = search needs
 
 return-from-call-requires : tie.Need-return-from-call-requires
 return-from-call-requires c κs = search needs
@@ -40,7 +40,7 @@ returns c =
     let returned = c .before .before .before .before .before .before in
     let popped = returned .before .before .before in
     let raised = popped .raise .ensures in
-    let stored = popped .before .before .store .ensures in
+    let stored = popped .before .before .with-flags .ensures in
     let loaded = popped .before .before .before .before .load .ensures in (
       rw (c .before .before .before .set-interrupts .ensures, returned .return-from-call .ensures .0, raised, stored, loaded),
       rw (c .goes-on .ensures, c .before .word-mapped .ensures, c .before .before .mapped .ensures, returned .return-from-call .ensures .1, raised, stored, loaded),
@@ -50,11 +50,11 @@ pub interrupt-return-spec : {M : Type 1} → statement M
 interrupt-return-spec =
     tie.close
     (tie.spec
-    element-copy-out-t10
+    element-copy-out-t11
     load-requires
-    store-requires
+    with-flags-requires
     raise-requires
-    element-copy-out-t10-2
+    element-copy-out-t11-2
     return-from-call-requires
     set-interrupts-requires
     mapped-requires
