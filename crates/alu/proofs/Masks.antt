@@ -12,7 +12,7 @@ use Rattle.base.specs.Formula.Formula.{test, forallBelow}
 use Rattle.isa.specs.declared.Flag.the-variants.{Carry, Zero, Sign, Overflow}
 use Rattle.isa.specs.Flags.{flagIn}
 use Rattle.alu.specs.Flags.{flagsByte}
-use Rattle.alu.specs.Laws.{everySetting, at-setting}
+use Rattle.alu.specs.Laws.{everySetting, at-setting, upper}
 
 -- the bits of a byte that a mask of flags has
 common : ℕ → Bool → Bool → Bool → Bool → ℕ
@@ -48,13 +48,6 @@ chosen false true false = refl
 chosen false false true = refl
 chosen false false false = refl
 
--- the flags of a byte
-upper : (n : ℕ) → n < 256 → bitAnd n 0xF0 ≡ flagsByte (flagIn Carry n) (flagIn Zero n) (flagIn Sign n) (flagIn Overflow n)
-unfolding flagIn flagsByte
-upper n h =
-    eqb-true _ _
-    (sound (forallBelow 256 (λ n. test (eqb (bitAnd n 0xF0) (flagsByte (flagIn Carry n) (flagIn Zero n) (flagIn Sign n) (flagIn Overflow n))))) tt n h)
-
 pub masks : (f n x : ℕ) → f < 256 → n < 256 → x < 256
     → bitOr (bitAnd f (bitXor 0xF0 (bitAnd n 0xF0))) (bitAnd x (bitAnd n 0xF0))
     ≡ flagsByte (pick (flagIn Carry n) (flagIn Carry x) (flagIn Carry f)) (pick (flagIn Zero n) (flagIn Zero x) (flagIn Zero f))
@@ -65,12 +58,13 @@ masks f n x hf hn hx =
     let z = flagIn Zero n in
     let s = flagIn Sign n in
     let v = flagIn Overflow n in
+    let kept = or-flags (flagIn Carry f && not c) (flagIn Zero f && not z) (flagIn Sign f && not s) (flagIn Overflow f && not v) in
     rw (
       upper n hn,
       xor-flags c z s v,
       and-flags f hf (not c) (not z) (not s) (not v),
       and-flags x hx c z s v,
-      or-flags (flagIn Carry f && not c) (flagIn Zero f && not z) (flagIn Sign f && not s) (flagIn Overflow f && not v) (flagIn Carry x && c) (flagIn Zero x && z) (flagIn Sign x && s) (flagIn Overflow x && v),
+      kept (flagIn Carry x && c) (flagIn Zero x && z) (flagIn Sign x && s) (flagIn Overflow x && v),
       chosen (flagIn Carry f) c (flagIn Carry x),
       chosen (flagIn Zero f) z (flagIn Zero x),
       chosen (flagIn Sign f) s (flagIn Sign x),

@@ -7,12 +7,12 @@ use mathlib.Core.Bool.{Bool, Bool·beq, true, false, not, _&&_, _||_, or-true, o
 use native.Mathlib.Nat.{add-zero}
 use native.Mathlib.Omega.{arith}
 use lib.Dec.{eqb, leb, ltb}
-use lib.Bits.{and-le-l, and-le-r, or-lt, xor-lt}
+use lib.Bits.{bitAnd, and-le-l, and-le-r, or-lt, xor-lt}
 use borrow.Author.Tests.{eqb-true, ltb-true, lt-ltb, le-ltb, le-leb, lt-leb, eq-eqb, ne-eqb}
 use Rattle.base.specs.Choice.{pick}
 use Rattle.base.specs.ChoiceLaws.{pick-has}
 use Rattle.base.specs.Formula.{sound, same?, le?}
-use Rattle.base.specs.Formula.Formula.{test, eq, _⇒_, forallBelow}
+use Rattle.base.specs.Formula.Formula.{test, eq, forallBelow}
 use Rattle.isa.specs.declared.Alu.{Alu}
 use Rattle.isa.specs.declared.Alu.the-variants.{Add, Adc, Sub, Sbc, Or, And, Tcm, Tm, Cp, Xor}
 use Rattle.isa.specs.declared.Unary.{Unary}
@@ -115,7 +115,7 @@ unfolding update
 update-low f n x = byte-low _ _ _ _
 
 -- where all four are named FLAGS is the byte itself
-pub in-all : (g : Flag) → flagIn g (allFlags .0) ≡ true
+in-all : (g : Flag) → flagIn g (allFlags .0) ≡ true
 unfolding flagIn
 in-all Carry = refl
 in-all Zero = refl
@@ -136,16 +136,15 @@ update-all f c z s v =
       byte-flag Overflow c z s v,
     )
 
--- a byte with 0 in bits 3 to 0 is that of its flags
-own-flags : (x : ℕ) → x < 256 → x % 16 ≡ 0 → flagsByte (flagIn Carry x) (flagIn Zero x) (flagIn Sign x) (flagIn Overflow x) ≡ x
+-- bits 7 to 4 of a byte are its flags; they are what FLAGS becomes where all four are named
+pub upper : (x : ℕ) → x < 256 → bitAnd x 0xF0 ≡ flagsByte (flagIn Carry x) (flagIn Zero x) (flagIn Sign x) (flagIn Overflow x)
 unfolding flagIn flagsByte
-own-flags x h z =
-    sound (forallBelow 256 (λ x. eq (x % 16) 0 ⇒ eq (flagsByte (flagIn Carry x) (flagIn Zero x) (flagIn Sign x) (flagIn Overflow x)) x)) tt x h z
+upper x h =
+    sound (forallBelow 256 (λ x. eq (bitAnd x 0xF0) (flagsByte (flagIn Carry x) (flagIn Zero x) (flagIn Sign x) (flagIn Overflow x)))) tt x h
 
-pub update-whole : (f x : ℕ) → x < 256 → x % 16 ≡ 0 → update f allFlags x ≡ x
-update-whole f x h z =
-    let e = own-flags x h z in
-    ap (update f allFlags) (sym e) ∙ (update-all f _ _ _ _ ∙ e)
+pub update-whole : (f x : ℕ) → x < 256 → update f allFlags x ≡ bitAnd x 0xF0
+unfolding update updated
+update-whole f x h = rw (in-all Carry, in-all Zero, in-all Sign, in-all Overflow) (sym (upper x h))
 
 -- conditions: F never holds, T always does, and the opposite of a condition below 8 is 8 above it
 pub condition-never : (f : ℕ) → condition 0 f ≡ false

@@ -6,6 +6,7 @@ use mathlib.Core.Bool.{true, false}
 use mathlib.Core.List.{List, _++_}
 use lib.ListN.{length, getD}
 use Rattle.base.specs.declared.RomAddr.{RomAddr}
+use Rattle.base.specs.Addresses.{flagsCell}
 use Rattle.base.specs.Cells.{Bytes}
 use Rattle.base.specs.Formula.{Holds}
 use Rattle.base.specs.Outcome.Outcome.{value, refused}
@@ -22,6 +23,8 @@ use Rattle.decode.specs.Names as names
 use Rattle.instruction_bytes.specs.Bytes.{bytesOf}
 use Rattle.roundtrip.specs.EncodedDecodes.{encoded-decodes}
 use Rattle.action.specs.Action.{actionOf}
+use Rattle.chip.specs.Registers.{storeOf}
+use Rattle.semantics.specs.Operands.{withFlags}
 use Rattle.semantics.specs.declared.State.{State}
 use Rattle.semantics.specs.Step.{requested, entryDue, behind, stepOf}
 use Rattle.certificate.specs.declared.Flow.the-variants.{Step, Call}
@@ -29,7 +32,7 @@ use Rattle.certificate.specs.Layout.{Certificate}
 use Rattle.safety.specs.Rules.{noCell, Edge, edge26, rule26}
 use Rattle.safety.specs.Verdicts.{summaryAt}
 use Rattle.flag_names.specs.Stores.{storesFlags}
-use Rattle.flag_names.specs.Kept.{flagsIn, unnamed-kept, iret-named}
+use Rattle.flag_names.specs.Kept.{flagsIn, unnamed-kept, iret-named, iret-loads}
 use Rattle.flag_names.specs.Witnesses.{ChangedBy, named-changed}
 use Rattle.flag_names.specs.Compares.{EdgeFollows, CallFollows, compare-survives, compare-over-call, none-behind-call}
 use Rattle.hex_line.specs.declared.Fields.{Fields}
@@ -95,13 +98,17 @@ pub iret-names-all : (s : List ℕ) → Bytes s → (at : ℕ) (d : Instruction 
     → d .2 ≡ allFlags
 iret-names-all = iret-named
 
+-- so its load of FLAGS, which goes through the names as every change of a flag, leaves what a store into FLAGS leaves
+pub iret-loads-flags : (regs : List ℕ) (x : ℕ) → x < 256 → withFlags regs allFlags x ≡ storeOf regs flagsCell x
+iret-loads-flags = iret-loads
+
 -- behind a CALL a compare never holds
 pub no-compare-behind-call : (C : Certificate) (image : List ℕ) (a next : ℕ) (to : RomAddr) → summaryAt image a .flow ≡ Call to
     → Holds (rule26 C a (summaryAt image a) next) → C .compareCell next ≡ noCell
 no-compare-behind-call = none-behind-call
 
--- elsewhere it survives exactly the instructions that name no flag and cannot write its cell (`Survives`): rule 26 says of an edge that the claims follow and
--- that a compare at its end is made by this very CP or survives, and no more
+-- elsewhere it survives exactly the instructions that name no flag and cannot write its cell, by the rule's own `changeOf` (`Survives`): rule 26 says of an
+-- edge that is not skipped that the claims follow and that a compare at its end is made by this very CP or survives, and no more
 pub compare-survives-exactly : (C : Certificate) (image : List ℕ) (a : ℕ) (d : Instruction × ℕ × FlagSet) → Bytes image → decodeAt image a ≡ value d
     → (cc : ℕ) (to : RomAddr) → summaryAt image a .flow ≡ Step cc to → (e : Edge)
     → (Holds (edge26 C a (summaryAt image a) e) → EdgeFollows C image a d e) × (EdgeFollows C image a d e → Holds (edge26 C a (summaryAt image a) e))

@@ -235,7 +235,7 @@ module _ (C : Certificate) (image : List ℕ) (a : ℕ) (d : Instruction × ℕ 
         let stays = subst Stays (sym flow) tt in
         ((λ h f. (h f .0, follows-only stays (e .to) (h f .1))), (λ h f. (h f .0, λ p. follows-if stays (e .to) (h f .1 p) p)))
 
-    -- rule 26 of a CALL, which writes no cell, says that, and no more
+    -- rule 26 of a CALL, whose summary writes no cell, says that, and no more
     pub compare-over-call : (next : ℕ) (to : RomAddr) → summaryAt image a .flow ≡ Call to
         → (Holds (rule26 C a (summaryAt image a) next) → CallFollows next (to .0)) × (CallFollows next (to .0) → Holds (rule26 C a (summaryAt image a) next))
     unfolding rule26 call26 summaryOf compareFollows

@@ -24,23 +24,22 @@ use Rattle.isa.specs.declared.Implied.{Implied}
 use Rattle.isa.specs.declared.Instruction.{Instruction}
 use Rattle.isa.specs.Flags.{flagIn, allFlags}
 use Rattle.decode.specs.Decode.{decodeAt}
-use Rattle.chip.specs.Registers.{among, loadOf, storeOf}
+use Rattle.chip.specs.Registers.{among, keptBits, loadOf, writtenOf, keptOf, storeOf}
 use Rattle.chip.specs.Laws.{store-other}
 use Rattle.chip.specs.Interrupts.{setInterruptsOf}
 use Rattle.chip.specs.InterruptLaws.{set-interrupts-other, post-other}
 use Rattle.alu.specs.Flags.{carry, flagsByte, updated, update}
 use Rattle.alu.specs.Operations.{operate, modify, stores}
-use Rattle.alu.specs.Laws.{update-flag}
+use Rattle.alu.specs.Laws.{update-flag, update-whole}
 use Rattle.action.specs.declared.Action.{Action}
 use Rattle.action.specs.Action.{actionOf}
 use Rattle.semantics.specs.Operands.{placeOf, fetchOf, wordAt, withFlags, spOf, lowered, raised, storeTop, pushOf, pushAddress}
-use Rattle.semantics.specs.Execute.{storeIf, codeAddress, steppedPair, binaryOf, modifyOf, loadInto, pushOperand, popOperand, loadCodeOf, loadCodeStepOf, jumpOf, jumpPairOf}
-use Rattle.semantics.specs.Execute.{callOf, callPairOf, returnOf, interruptReturnOf, carryChanged, carryOf, stopOf, executeOf}
+use Rattle.semantics.specs.Execute.{Executed, storeIf, codeAddress, steppedPair, carryChanged, executeOf}
+use Rattle.semantics.specs.Opened.{actionsOpened}
 use Rattle.semantics.specs.declared.Mode.{Mode}
 use Rattle.semantics.specs.declared.Mode.the-variants.{Running, Idle, Stopped}
 use Rattle.semantics.specs.declared.State.{State}
 use Rattle.semantics.specs.declared.Stepped.{Stepped}
-use Rattle.semantics.specs.Execute.{Executed}
 use Rattle.semantics.specs.Step.{Acted, requested, entryDue, behind, finishOf, afterDecode, instructionAct, waitingAct, modeAct, actAfterRequests, actedOf, settled, stepOf}
 use Rattle.safety.specs.Invariant.{Shaped}
 use Rattle.safety.specs.DecodedShape.{decoded-shaped}
@@ -119,7 +118,7 @@ module _ (g : Flag) (n : FlagSet) (u : flagIn g (n .0) ≡ false) (image regs re
       address-kept regs next (among-head first (second ∷ []) h) (among-head second [] (among-tail first (second ∷ []) h))
 
   executed-kept : (act : Action) → storesFlags act regs rec next ≡ false → Same (executeOf act n image regs rec next .regs)
-  unfolding storesFlags storedTo executeOf binaryOf modifyOf loadInto pushOperand popOperand loadCodeOf loadCodeStepOf jumpOf jumpPairOf callOf callPairOf returnOf interruptReturnOf carryOf stopOf pushOf
+  unfolding storesFlags storedTo actionsOpened pushOf
   executed-kept (Action.Binary op d s) h =
       let p = placeOf regs rec d in
       let o = operate op (loadOf regs rec (p .addr .0)) (fetchOf regs rec s .value) (carry (flagsIn regs)) in
@@ -215,3 +214,8 @@ pub iret-named : (s : List ℕ) → Bytes s → (at : ℕ) (d : Instruction × �
 unfolding actionOf
 iret-named s bytes at d found e =
     subst (λ (i : Instruction). Shaped (d .2) (actionOf i (romAddr 0))) e (decoded-shaped s bytes at d found (romAddr 0))
+
+-- so its load of FLAGS through the names is the store that its page has (FLAGS ← @SP)
+pub iret-loads : (regs : List ℕ) (x : ℕ) → x < 256 → withFlags regs allFlags x ≡ storeOf regs flagsCell x
+unfolding withFlags storeOf keptOf writtenOf keptBits
+iret-loads regs x h = ap (set regs flagsCell) (update-whole (flagsIn regs) x h)

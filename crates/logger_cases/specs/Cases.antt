@@ -62,7 +62,7 @@ pub data Case : Type 0 where
   -- the verdict on an image and a certificate, and the whole text that is printed
   judges : List ℕ → List ℕ → Verdict → String → Case
 
--- an operation has this value, and the flags that are named make FLAGS of it
+-- an operation that names some flags has this value, and they make this of FLAGS
 abbrev pub Leaves : FlagSet → Computed → ℕ → (ℕ → ℕ) → Type 0
 Leaves n r v f = (r .value ≡ v) × ((before : ℕ) → update before n (r .flags) ≡ f before)
 

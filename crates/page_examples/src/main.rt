@@ -15,7 +15,7 @@ use semantics::Ran;
 use semantics::State;
 use semantics::Stepped;
 use test_support::hex_byte;
-use test_support::hex_digit;
+use test_support::hex_value;
 use test_support::print;
 use test_support::print_hex;
 use test_support::store;
@@ -93,11 +93,11 @@ fn find(text: &[u8], at: usize, end: usize, b: u8) -> usize {
 fn digit_at(text: &[u8], at: usize) -> u8
     ensures { λ r. ⌜ r < 16 ⌝ }
 {
-    hex_digit(byte_at(text, at)) % 16
+    hex_value(byte_at(text, at)) % 16
 }
 
 fn is_digit(text: &[u8], at: usize) -> bool {
-    hex_digit(byte_at(text, at)) < 16
+    hex_value(byte_at(text, at)) < 16
 }
 
 fn is_bit(b: u8) -> bool {

@@ -29,7 +29,7 @@ use Rattle.safety.specs.Rules.{ramEnd, plainEdge, boundAt, worst, flowAl
 use Rattle.safety.specs.Statement.{Opener, byReset, byCall, byInterrupt, Frame}
 use Rattle.safety.specs.Invariant.{at, Registers, Awake, Claims, reserve, InterruptLink, Link, frameSize, Chain, Invariant}
 use Rattle.safety.specs.Facts.{Global, EntryFacts}
-use Rattle.safety.specs.Memory.{sp-registers, sp-other, sp-same, interrupts-registers, flags-all, flags-other, flags-registers}
+use Rattle.safety.specs.Memory.{sp-registers, sp-other, sp-same, interrupts-registers, flags-all, flags-other, flags-registers, high-nibble}
 use Rattle.safety.specs.Chain.{chain-room, chain-top, chain-keep}
 use Rattle.safety.specs.Edge.{CertificateFacts, in-range, now-worst}
 use Rattle.safety.specs.Plain.{RulesOf, claims-kept, first-kept, reserve-main, entry-of}
@@ -87,7 +87,7 @@ resumed r rec g hs hw =
         pointer = c4 spCell (omega arith) ∙ s3;
         flags =
             c4 flagsCell (omega arith) ∙ sp-other r2 ((at r2 spCell + 2) % 256) flagsCell (omega arith)
-            ∙ sp-other r1 ((at r1 spCell + 1) % 256) flagsCell (omega arith) ∙ flags-all r w g ∙ update-whole (at r flagsCell) w hb hn ∙ ew;
+            ∙ sp-other r1 ((at r1 spCell + 1) % 256) flagsCell (omega arith) ∙ flags-all r w g ∙ update-whole (at r flagsCell) w hb ∙ high-nibble w hb hn ∙ ew;
       },
       rw (mapped-ram s (omega arith), word .1) refl,
       word .0 ∙ omega arith,

@@ -4,14 +4,15 @@ use mathlib.Core.Path.{_≡_, refl, sym, _∙_}
 use mathlib.Core.Logic.{_≢_, _⊎_, inl, inr, ⊎-elim}
 use mathlib.Core.Bool.{Bool, true, false, _||_, _&&_}
 use mathlib.Core.List.{List, [], _∷_, map}
-use Prim.Native.Nat.{ℕ, _<_}
+use Prim.Native.Nat.{ℕ, _%_, _<_}
 use native.Mathlib.Omega.{arith}
 use lib.Dec.{T, eqb, ltb, eqb→eq, ltb→lt}
+use lib.Bits.{bitAnd}
 use lib.ListN.{getD, set, length-set}
 use lib.Seq.{getD-set-same, getD-set-other}
 use Rattle.base.specs.Addresses.{flagsCell, spCell}
 use Rattle.base.specs.ChoiceLaws.{pick-has}
-use Rattle.base.specs.Formula.{of-true, sound, test, eq, _&_}
+use Rattle.base.specs.Formula.{of-true, sound, test, eq, _&_, _⇒_, forallBelow}
 use Rattle.base.specs.Cells.{set-cells}
 use Rattle.chip.specs.Registers.{mappedOf, loadOf, storeOf, among, keptRows, readOnly, testRegister}
 use Rattle.chip.specs.Laws.{load-byte, store-length, store-other, store-bytes}
@@ -123,3 +124,7 @@ interrupts-registers r on g = record {
   bytes = set-interrupts-bytes r on (g .bytes);
   flags = rw (set-interrupts-other r on flagsCell (omega arith)) (g .flags);
 }
+
+-- a byte whose low nibble is 0 has no other bits than the flags
+pub high-nibble : (v : ℕ) → v < 256 → v % 16 ≡ 0 → bitAnd v 0xF0 ≡ v
+high-nibble v h z = sound (forallBelow 256 (λ (v : ℕ). eq (v % 16) 0 ⇒ eq (bitAnd v 0xF0) v)) tt v h z

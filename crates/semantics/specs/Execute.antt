@@ -138,7 +138,7 @@ unfoldable pub returnOf : List ℕ → List ℕ → Executed
 returnOf regs rec =
     record { regs = raised regs 2; next = goesOn (wordMapped (spOf regs)) (romAddr (wordAt regs rec (spOf regs))) }
 
--- IRET: FLAGS, of which it names all four, from @SP, SP + 1; then as RET; then SYM.2 is 1
+-- IRET: the flags that it names, all four, from @SP into FLAGS, SP + 1; then as RET; then SYM.2 is 1
 unfoldable pub interruptReturnOf : FlagSet → List ℕ → List ℕ → Executed
 interruptReturnOf n regs rec =
     let r = raised (withFlags regs n (loadOf regs rec (spOf regs))) 1 in

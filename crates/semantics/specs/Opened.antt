@@ -1,4 +1,4 @@
--- One name that opens every definition which a step computes through: `unfolding opened` opens them all.
+-- One name that opens every definition which a step computes through, `unfolding opened`, and one for those of the actions alone.
 -- Assumes nothing.
 use Prim.Native.Nat.{ℕ}
 use Rattle.isa.specs.Flags.{flagIn}
@@ -14,21 +14,25 @@ use Rattle.semantics.specs.Execute.{callOf, callPairOf, returnOf, interr
 use Rattle.semantics.specs.Step.{actingRequests, entryDue, finishOf, enterOf, afterDecode, instructionAct, modeAct, actAfterRequests, actedOf, settled, stepOf}
 
 unfoldable registersOpened : ℕ
-unfolding flagIn decodeAt actionOf keptBits mappedOf loadOf writtenOf keptOf storeOf interruptsEnabled setInterruptsOf pendingEdge pendingAny raiseOf postOf
+unfolding decodeAt actionOf keptBits mappedOf loadOf writtenOf keptOf storeOf interruptsEnabled setInterruptsOf pendingEdge pendingAny raiseOf postOf
 registersOpened = 0
 
+unfoldable flagsOpened : ℕ
+unfolding flagIn carry zeroFlag signFlag overflowFlag flagsByte updated update conditionOn condition
+flagsOpened = 0
+
 unfoldable operationsOpened : ℕ
-unfolding carry zeroFlag signFlag overflowFlag flagsByte updated update conditionOn condition biased overflows addition subtraction logical operate stores increment decrement rotation shiftRight modify
+unfolding biased overflows addition subtraction logical operate stores increment decrement rotation shiftRight modify
 operationsOpened = 0
 
 unfoldable operandsOpened : ℕ
 unfolding placeOf fetchPlace fetchOf withFlags lowered raised storeTop pushOf pushAddress wordAt wordMapped codeAddress steppedPair storeIf carryChanged
 operandsOpened = 0
 
-unfoldable actionsOpened : ℕ
+unfoldable pub actionsOpened : ℕ
 unfolding binaryOf modifyOf loadInto pushOperand popOperand loadCodeOf loadCodeStepOf jumpOf jumpPairOf callOf callPairOf returnOf interruptReturnOf carryOf stopOf executeOf
 actionsOpened = 0
 
 unfoldable pub opened : ℕ
-unfolding registersOpened operationsOpened operandsOpened actionsOpened actingRequests entryDue finishOf enterOf afterDecode instructionAct modeAct actAfterRequests actedOf settled stepOf
+unfolding registersOpened flagsOpened operationsOpened operandsOpened actionsOpened actingRequests entryDue finishOf enterOf afterDecode instructionAct modeAct actAfterRequests actedOf settled stepOf
 opened = 0

@@ -10,8 +10,8 @@ use lib.ListN.{length, getD, List·getD-eq-default}
 use Rattle.base.specs.Choice.{pick}
 
 -- of a character: 0 to 9, A to F or a to f
-abbrev pub digitOf : ℕ → ℕ
-digitOf b =
+abbrev pub hexValue : ℕ → ℕ
+hexValue b =
     pick (leb 0x30 b && leb b 0x39) (b % 16)
     (pick (leb 0x41 b && leb b 0x46) (b % 16 + 9)
     (pick (leb 0x61 b && leb b 0x66) (b % 16 + 9)

@@ -1,11 +1,11 @@
-// What the test programs and the benchmarks share: bytes into a slice and out of it, printing, the cases of a vector file, and the arguments of a
-// benchmark. In a vector file numbers are high byte first, and cases follow one another up to the file's end.
+// What the test programs and the benchmarks share: bytes into a slice and out of it, hexadecimal digits, printing, the cases of a vector file, and
+// the arguments of a benchmark. In a vector file numbers are high byte first, and cases follow one another up to the file's end.
 ghost use Prim.Native.Nat.{_+_, _-_, _*_, _%_, _≤_};
 ghost use mathlib.Core.Path.{_≡_};
 ghost use lib.ListN.{set};
 ghost use lib.Seq.{sets};
 ghost use Rattle.test_support.specs.Arguments.{numberOf, rowsOf};
-ghost use Rattle.test_support.specs.Numbers.{digitOf, wordAt, longAt};
+ghost use Rattle.test_support.specs.Numbers.{hexValue, wordAt, longAt};
 ghost use Rattle.test_support.specs.Edits.{Edited};
 ghost use Rattle.test_support.specs.Counts.{startOf, countedOf};
 use base::byte_at;
@@ -54,8 +54,8 @@ pub fn long(high: u16, low: u16) -> u32
 }
 
 // The value of a hexadecimal digit, 16 of another character.
-pub fn hex_digit(b: u8) -> u8
-    ensures { λ r. ⌜ r ≡ digitOf b ⌝ }
+pub fn hex_value(b: u8) -> u8
+    ensures { λ r. ⌜ r ≡ hexValue b ⌝ }
 {
     if (48 <= b) & (b <= 57) {
         return b % 16;
@@ -71,9 +71,9 @@ pub fn hex_digit(b: u8) -> u8
 
 // The byte of two hexadecimal digits; another character counts as 0.
 pub fn hex_byte(high: u8, low: u8) -> u8
-    ensures { λ r. ⌜ r ≡ digitOf high % 16 * 16 + digitOf low % 16 ⌝ }
+    ensures { λ r. ⌜ r ≡ hexValue high % 16 * 16 + hexValue low % 16 ⌝ }
 {
-    hex_digit(high) % 16 * 16 + hex_digit(low) % 16
+    hex_value(high) % 16 * 16 + hex_value(low) % 16
 }
 
 // The number of two bytes from a place on; a byte past the end counts as 0.

@@ -1,8 +1,8 @@
 -- The three tests are the definition's.
 -- Assumes nothing.
 use borrow.Author.Needs.{needs}
-use Rattle.test_support.proofs.hex_digit.Statement.{statement}
-use Rattle.test_support.proofs.hex_digit.Tie as tie
+use Rattle.test_support.proofs.hex_value.Statement.{statement}
+use Rattle.test_support.proofs.hex_value.Tie as tie
 
 returns : tie.Need-returns
 returns c = rw (c .if1 .taken)
@@ -22,5 +22,5 @@ returns-3 c = rw (c .before .before .if1 .left, c .before .if2 .left, c .if3 .ta
 returns-4 : tie.Need-returns-4
 returns-4 c = rw (c .before .before .if1 .left, c .before .if2 .left, c .if3 .left)
 
-pub hex-digit-spec : {M : Type 1} → statement M
-hex-digit-spec = tie.close (tie.spec returns add-result returns-2 add-result-2 returns-3 returns-4)
+pub hex-value-spec : {M : Type 1} → statement M
+hex-value-spec = tie.close (tie.spec returns add-result returns-2 add-result-2 returns-3 returns-4)
