@@ -114,7 +114,7 @@ pub update-low : (f : ℕ) (n : FlagSet) (x : ℕ) → update f n x % 16 ≡ 0
 unfolding update
 update-low f n x = byte-low _ _ _ _
 
--- where all four are named FLAGS is the byte itself
+-- where all four are named FLAGS has those of x, whatever it had
 in-all : (g : Flag) → flagIn g (allFlags .0) ≡ true
 unfolding flagIn
 in-all Carry = refl
@@ -122,29 +122,22 @@ in-all Zero = refl
 in-all Sign = refl
 in-all Overflow = refl
 
-update-all : (f : ℕ) (c z s v : Bool) → update f allFlags (flagsByte c z s v) ≡ flagsByte c z s v
+update-named : (f x : ℕ) → update f allFlags x ≡ flagsByte (flagIn Carry x) (flagIn Zero x) (flagIn Sign x) (flagIn Overflow x)
 unfolding update updated
-update-all f c z s v =
-    rw (
-      in-all Carry,
-      in-all Zero,
-      in-all Sign,
-      in-all Overflow,
-      byte-flag Carry c z s v,
-      byte-flag Zero c z s v,
-      byte-flag Sign c z s v,
-      byte-flag Overflow c z s v,
-    )
+update-named f x = rw (in-all Carry, in-all Zero, in-all Sign, in-all Overflow)
 
--- bits 7 to 4 of a byte are its flags; they are what FLAGS becomes where all four are named
+update-all : (f : ℕ) (c z s v : Bool) → update f allFlags (flagsByte c z s v) ≡ flagsByte c z s v
+update-all f c z s v =
+    update-named f (flagsByte c z s v) ∙ rw (byte-flag Carry c z s v, byte-flag Zero c z s v, byte-flag Sign c z s v, byte-flag Overflow c z s v)
+
+-- the flags of a byte are its bits 7 to 4
 pub upper : (x : ℕ) → x < 256 → bitAnd x 0xF0 ≡ flagsByte (flagIn Carry x) (flagIn Zero x) (flagIn Sign x) (flagIn Overflow x)
 unfolding flagIn flagsByte
 upper x h =
     sound (forallBelow 256 (λ x. eq (bitAnd x 0xF0) (flagsByte (flagIn Carry x) (flagIn Zero x) (flagIn Sign x) (flagIn Overflow x)))) tt x h
 
 pub update-whole : (f x : ℕ) → x < 256 → update f allFlags x ≡ bitAnd x 0xF0
-unfolding update updated
-update-whole f x h = rw (in-all Carry, in-all Zero, in-all Sign, in-all Overflow) (sym (upper x h))
+update-whole f x h = update-named f x ∙ sym (upper x h)
 
 -- conditions: F never holds, T always does, and the opposite of a condition below 8 is 8 above it
 pub condition-never : (f : ℕ) → condition 0 f ≡ false

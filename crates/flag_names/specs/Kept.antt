@@ -1,4 +1,5 @@
--- A flag that an instruction does not name is the same after its step, unless the instruction stores into FLAGS itself.
+-- A flag that an instruction does not name is the same after its step, unless the instruction stores into FLAGS itself. IRET names all four, so its load
+-- of FLAGS is a store.
 -- Assumes nothing.
 use Prim.Native.Nat.{ℕ, _+_, _%_, _≤_, _<_}
 use mathlib.Core.Path.{_≡_, refl, sym, ap, subst, _∙_}

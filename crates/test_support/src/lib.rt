@@ -57,14 +57,14 @@ pub fn long(high: u16, low: u16) -> u32
 pub fn hex_value(b: u8) -> u8
     ensures { λ r. ⌜ r ≡ hexValue b ⌝ }
 {
-    if (48 <= b) & (b <= 57) {
-        return b % 16;
+    if (b'0' <= b) & (b <= b'9') {
+        return b - b'0';
     }
-    if (65 <= b) & (b <= 70) {
-        return b % 16 + 9;
+    if (b'A' <= b) & (b <= b'F') {
+        return b - b'A' + 10;
     }
-    if (97 <= b) & (b <= 102) {
-        return b % 16 + 9;
+    if (b'a' <= b) & (b <= b'f') {
+        return b - b'a' + 10;
     }
     16
 }
