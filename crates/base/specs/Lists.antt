@@ -1,13 +1,13 @@
 -- Parts of a slice, as they come back from a call that was lent them, and stores that fill a list from its front or lie past its end.
 -- Assumes nothing.
 use Prim.Native.Nat.{ℕ, suc, _+_, _-_, _≤_, _<_}
-use mathlib.Core.Path.{_≡_, refl}
+use mathlib.Core.Path.{_≡_, refl, _∙_}
 use mathlib.Core.List.{List, [], _∷_, _++_, append-assoc, append-nil}
 use native.Mathlib.Nat.{le-of-eq}
 use native.Mathlib.Numerals.{add-one}
 use native.Mathlib.Omega.{arith}
 use lib.ListN.{length, getD, take, drop, set, length-drop, drop-of-length-le}
-use lib.Seq.{take-all, drop-cons, set-at, set-out, sets}
+use lib.Seq.{take-all, drop-cons, take-at, drop-at, drop-drop, set-at, set-out, sets}
 
 -- the part from n to the end
 pub part-to-end : (n : ℕ) (l : List ℕ) → take (length l - n) (drop n l) ≡ drop n l
@@ -20,6 +20,13 @@ pub part-back : (xs d : List ℕ) (a n : ℕ)
 part-back xs d a n =
     let e : length (drop a xs) ≤ length xs - a = omega (arith, length-drop a xs) in
     rw (take-all (length xs - a) (drop a xs) e, drop-of-length-le (drop a xs) e, append-nil)
+
+-- the same where r stands before that part
+pub part-back-behind : (r d xs ys : List ℕ) (a n : ℕ) → length r ≡ a → xs ≡ r ++ drop a ys
+    → take a xs ++ ((d ++ drop n (take (length xs - a) (drop a xs))) ++ drop (length xs - a) (drop a xs)) ≡ (r ++ d) ++ drop (a + n) ys
+part-back-behind r d xs ys a n e g =
+    part-back xs d a n
+    ∙ rw (g, take-at r (drop a ys) a e, drop-at r (drop a ys) a e, drop-drop n a ys, append-assoc r d (drop (a + n) ys))
 
 -- a store right behind what is written
 pub store-next : (done p : List ℕ) (i v : ℕ) → length done ≡ i → i < length p

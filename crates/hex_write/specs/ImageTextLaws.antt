@@ -1,14 +1,13 @@
 -- Laws on the text of an image: the recursions one step on, lengths, and stores that write it from the front.
 -- Assumes nothing.
-use Prim.Native.Nat.{ℕ, zero, suc, _+_, _-_, _*_, _/_, _%_, _<_}
-use mathlib.Core.Path.{_≡_, refl, _∙_}
+use Prim.Native.Nat.{ℕ, zero, suc, _+_, _*_, _/_, _%_, _<_}
+use mathlib.Core.Path.{_≡_, refl}
 use mathlib.Core.List.{List, [], _∷_, _++_, append-assoc}
 use native.Mathlib.Numerals.{add-one}
 use native.Mathlib.Omega.{arith}
-use lib.ListN.{length, take, drop, set, length-append}
-use lib.Seq.{take-at, drop-at, drop-drop}
+use lib.ListN.{length, drop, set, length-append}
 use native.Mathlib.Nat.{not-suc-le-zero}
-use Rattle.base.specs.Lists.{store-next, part-back}
+use Rattle.base.specs.Lists.{store-next}
 use Rattle.hex_write.specs.ImageText.{hexDigit, headByte, headSum, recordByte, digits, recordLine, records, endLine, recordCount, imageText, textLength}
 
 pub headSum-more : (m : List ℕ) (k i : ℕ) → headSum m k (i + 1) ≡ (headSum m k i + headByte m k i) % 256
@@ -55,11 +54,3 @@ store-two done p i i₁ i₂ v w e e₁ e₂ h =
 pub store-front : (l : List ℕ) (v : ℕ) → 0 < length l → set l 0 v ≡ (v ∷ []) ++ drop 1 (set l 0 v)
 store-front [] v h = absurd (not-suc-le-zero h)
 store-front (x ∷ l) v h = refl
-
--- the whole, once a line of w bytes was written to the part behind r
-pub line-back : (r line out out₀ : List ℕ) (n w : ℕ) → length r ≡ n → out ≡ r ++ drop n out₀
-    → take n out ++ ((line ++ drop w (take (length out - n) (drop n out))) ++ drop (length out - n) (drop n out))
-    ≡ (r ++ line) ++ drop (n + w) out₀
-line-back r line out out₀ n w e g =
-    part-back out line n w
-    ∙ rw (g, take-at r (drop n out₀) n e, drop-at r (drop n out₀) n e, drop-drop w n out₀, append-assoc r line (drop (n + w) out₀))

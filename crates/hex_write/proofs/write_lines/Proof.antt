@@ -6,8 +6,9 @@ use mathlib.Core.List.{_++_}
 use Prim.Native.Nat.{_≤_, _-_, _+_, _*_}
 use native.Mathlib.Omega.{arith}
 use lib.ListN.{length, take, drop, length-take, length-drop}
+use Rattle.base.specs.Lists.{part-back-behind}
 use Rattle.hex_write.specs.ImageText.{records, recordLine, recordCount, imageText, endLine}
-use Rattle.hex_write.specs.ImageTextLaws.{records-more, length-records, line-back}
+use Rattle.hex_write.specs.ImageTextLaws.{records-more, length-records}
 use borrow.Author.Needs.{needs}
 use Rattle.hex_write.proofs.write_lines.Statement.{statement}
 use Rattle.hex_write.proofs.write_lines.Tie as tie
@@ -54,7 +55,7 @@ loop-again c =
     let e : (l .k + 1) * 44 ≡ l .k * 44 + 44 = omega arith in (
       search needs,
       rw (c .before .before .write-record .ensures, records-more, e)
-          (line-back (records m (l .k)) (recordLine m (l .k)) (l .out) (now (a .out)) (l .k * 44) 44 (length-records m (l .k)) (l .inv .1)),
+          (part-back-behind (records m (l .k)) (recordLine m (l .k)) (l .out) (now (a .out)) (l .k * 44) 44 (length-records m (l .k)) (l .inv .1)),
       c .before .out .given .1 ∙ l .inv .2,
     )
 
@@ -85,7 +86,7 @@ returns c =
     let e : l .k ≡ recordCount = omega arith in
     let g : l .out ≡ records m recordCount ++ drop (recordCount * 44) (now (a .out)) = rw e at (l .inv .1) in
     rw (c .before .before .write-end .ensures)
-    (line-back (records m recordCount) endLine (l .out) (now (a .out)) (recordCount * 44) 12 (length-records m recordCount) g)
+    (part-back-behind (records m recordCount) endLine (l .out) (now (a .out)) (recordCount * 44) 12 (length-records m recordCount) g)
 
 pub write-lines-spec : {M : Type 1} → statement M
 write-lines-spec =

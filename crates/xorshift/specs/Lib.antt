@@ -1,0 +1,5 @@
+pub mod Fill
+pub mod Nonzero
+pub mod RecordLaws
+pub mod Values
+pub mod Xorshift
