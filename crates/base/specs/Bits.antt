@@ -1,10 +1,10 @@
--- Laws of AND and OR that the library does not have.
+-- Laws of AND, OR and XOR that the library does not have.
 -- Assumes nothing.
 use mathlib.Core.Path.{_≡_, _∙_}
-use Prim.Native.Nat.{ℕ, zero, suc, _%_, _/_, _<_, _≤_, min, max}
+use Prim.Native.Nat.{ℕ, zero, suc, _+_, _%_, _/_, _<_, _≤_, min, max}
 use native.Mathlib.Omega.{arith}
 use native.Mathlib.Nat.{le-refl}
-use lib.Bits.{bitAnd, bitOr, and-step, or-step, and-mask}
+use lib.Bits.{bitAnd, bitOr, bitXor, and-step, or-step, and-mask, xor-shr, xor-add-and}
 
 -- half of a result, and its lowest bit
 and-half : (a b : ℕ) → bitAnd a b / 2 ≡ bitAnd (a / 2) (b / 2)
@@ -56,6 +56,24 @@ and-or-below (suc n) a b c h =
 
 pub and-or : (a b c : ℕ) → bitAnd (bitOr a b) c ≡ bitOr (bitAnd a c) (bitAnd b c)
 and-or a b c = and-or-below a a b c (le-refl a)
+
+-- the lowest bit of the XOR of four
+xor-low : (a b c d : ℕ) → bitXor (bitXor a b) (bitXor c d) % 2 ≡ (a + b + c + d) % 2
+xor-low a b c d = omega (arith, xor-add-and (bitXor a b) (bitXor c d), xor-add-and a b, xor-add-and c d)
+
+-- by a bound on their sum
+xor-exchange-below : (n a b c d : ℕ) → a + b + c + d ≤ n → bitXor (bitXor a b) (bitXor c d) ≡ bitXor (bitXor a c) (bitXor b d)
+xor-exchange-below zero a b c d h =
+    let z : (a ≡ 0) × (b ≡ 0) × (c ≡ 0) × (d ≡ 0) = omega arith in
+    rw (z .0, z .1, z .2, z .3)
+xor-exchange-below (suc n) a b c d h =
+    halves (bitXor (bitXor a b) (bitXor c d)) (bitXor (bitXor a c) (bitXor b d))
+    (rw (xor-shr (bitXor a b) (bitXor c d) 1, xor-shr (bitXor a c) (bitXor b d) 1, xor-shr a b 1, xor-shr c d 1, xor-shr a c 1, xor-shr b d 1)
+    (xor-exchange-below n (a / 2) (b / 2) (c / 2) (d / 2) (omega arith)))
+    (omega (arith, xor-low a b c d, xor-low a c b d))
+
+pub xor-exchange : (a b c d : ℕ) → bitXor (bitXor a b) (bitXor c d) ≡ bitXor (bitXor a c) (bitXor b d)
+xor-exchange a b c d = xor-exchange-below (a + b + c + d) a b c d (le-refl (a + b + c + d))
 
 -- all eight bits of a byte
 pub and-byte : (x : ℕ) → x < 256 → bitAnd x 0xFF ≡ x

@@ -3,7 +3,7 @@
 --   `decode` decodeAt; `encode` encodeAnswer, encodeInto; `copy_instruction` copyAnswer, copyInto;
 --   `new_reader` begun; `check_line` readLine; `read_line` readLine, lineBuffer; `read_text` textAnswer, textBuffer;
 --   `start` started; `feed` feedStream, feedBuffer; `finish` finishAnswer; `write_image` writeAnswer, writeBuffer;
---   `upper_line` upperAnswer, upperLine;
+--   `upper_line` upperAnswer, upperLine; `fill` fillAnswer, fillBuffer;
 --   `reset` resetState; `step` stepOf; `run` runOf; `check` verdictOf;
 --   `write_report` reportAnswer, reportBuffer; `judge_texts` printedAnswer, printedBuffer.
 -- `judge_files` promises what `judge_texts` does of some two texts: no contract can say what a file holds.
@@ -53,6 +53,8 @@ use Rattle.hex_write.specs.Refusals.{write-number, write-unchanged, length-writ
 use Rattle.hex_write.specs.ReadBack.{ReadsBack, written-whole, write-reads-back}
 use Rattle.hex_upper.specs.Upper.{upperAnswer, upperLine}
 use Rattle.hex_upper.specs.UpperTheorems.{upper-number, upper-unchanged, upper-length}
+use Rattle.xorshift.specs.Xorshift.{fillAnswer, fillBuffer}
+use Rattle.xorshift.specs.Fill.{fill-number, fill-unchanged, length-fillBuffer}
 use Rattle.certificate.specs.declared.Verdict.{Verdict}
 use Rattle.certificate.specs.declared.Verdict.the-variants.{Accepted, Refused}
 use Rattle.certificate.specs.Layout.{certificateOf}
@@ -109,6 +111,10 @@ finish-refuses = finish-number
 -- the lent line is the buffer
 pub upper-line-lends : (line : List ℕ) → Lends (λ n. (1 ≤ n) × (n ≤ 3)) (upperAnswer line) line (upperLine line)
 upper-line-lends line = record { number = upper-number line; unchanged = upper-unchanged line; size = upper-length line }
+
+pub fill-lends : (seed : ℕ) (out : List ℕ) → Lends (λ n. n ≡ 7) (fillAnswer seed (length out)) out (fillBuffer seed out)
+fill-lends seed out =
+    record { number = fill-number seed (length out); unchanged = fill-unchanged seed out; size = length-fillBuffer seed out }
 
 pub write-image-lends : (m out : List ℕ) → Lends (λ n. n ≡ 7) (writeAnswer (length m) (length out)) out (writeBuffer m out)
 write-image-lends m out =

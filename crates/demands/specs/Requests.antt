@@ -1,14 +1,18 @@
 -- The requests of document 02 that have landed, word for word, with what each states as a theorem over the definitions.
 -- Assumes nothing.
-use Prim.Native.Nat.{ℕ, _+_, _-_, _%_, _≤_, _<_}
+use Prim.Native.Nat.{ℕ, _+_, _-_, _/_, _%_, _^_, _≤_, _<_}
 use mathlib.Core.Path.{_≡_}
 use mathlib.Core.Bool.{true, false}
-use mathlib.Core.List.{List, _++_}
+use mathlib.Core.Logic.{_⊎_}
+use mathlib.Core.List.{List, [], _∷_, _++_}
+use native.Mathlib.Omega.{arith}
+use lib.Bits.{bitAnd}
 use lib.ListN.{length, getD}
 use Rattle.base.specs.declared.RomAddr.{RomAddr}
 use Rattle.base.specs.Addresses.{flagsCell}
 use Rattle.base.specs.Cells.{Bytes}
 use Rattle.base.specs.Formula.{Holds}
+use Rattle.base.specs.Lengths.{recordLength}
 use Rattle.base.specs.Outcome.Outcome.{value, refused}
 use Rattle.isa.specs.declared.Flag.{Flag}
 use Rattle.isa.specs.declared.FlagSet.{FlagSet}
@@ -27,10 +31,12 @@ use Rattle.chip.specs.Registers.{storeOf}
 use Rattle.semantics.specs.Operands.{withFlags}
 use Rattle.semantics.specs.declared.State.{State}
 use Rattle.semantics.specs.Step.{requested, entryDue, behind, stepOf}
+use Rattle.semantics.specs.Run.{recordAt}
 use Rattle.certificate.specs.declared.Flow.the-variants.{Step, Call}
 use Rattle.certificate.specs.Layout.{Certificate}
 use Rattle.safety.specs.Rules.{noCell, Edge, edge26, rule26}
 use Rattle.safety.specs.Verdicts.{summaryAt}
+use Rattle.safety.specs.Statement.{Schedule}
 use Rattle.flag_names.specs.Stores.{storesFlags}
 use Rattle.flag_names.specs.Kept.{flagsIn, unnamed-kept, iret-named, iret-loads}
 use Rattle.flag_names.specs.Witnesses.{ChangedBy, named-changed}
@@ -46,6 +52,12 @@ use Rattle.hex_upper.specs.Former.{smallLetter, NoSmall, formerLine, formerBuff
 use Rattle.hex_upper.specs.Upper.{upperAnswer, upperLine}
 use Rattle.hex_upper.specs.SmallLetters as small
 use Rattle.hex_upper.specs.UpperTheorems as upper
+use Rattle.xorshift.specs.Xorshift.{recordFrom, recordsFrom, stateAfter, fillAnswer, fillBuffer}
+use Rattle.xorshift.specs.RecordLaws.{length-records, records-bytes, record-made, no-other-bit}
+use Rattle.xorshift.specs.Nonzero.{state-nonzero, state-below}
+use Rattle.xorshift.specs.Fill.{Fits, fits-answer, fits-buffer, fill-number, fill-refused, InTwo, in-two}
+use Rattle.xorshift.specs.Occurs.{each-request}
+use Rattle.xorshift.specs.Values.{statesFrom, marsaglia-first, one-first}
 
 -- Request 02. Add up the line while reading it. The crew wants the line sum gathered as each pair of digits is read, however it is done now, so that
 -- the work follows the order of the text. After any number of pairs the sum so far is proved to be theirs modulo 256. Every line, with two faults too,
@@ -120,6 +132,54 @@ pub compare-over-call-exactly : (C : Certificate) (image : List ℕ) (a : ℕ) (
     → (Holds (rule26 C a (summaryAt image a) next) → CallFollows C image a d next (to .0))
     × (CallFollows C image a d next (to .0) → Holds (rule26 C a (summaryAt image a) next))
 compare-over-call-exactly = compare-over-call
+
+-- Request 12. A load anybody can repeat. Two benches want to compare long runs without sending files. Schedules are made by Marsaglia's 32-bit xorshift
+-- with shifts 13 left, 17 right, 5 left: each state after a round gives four bytes, lowest first, two rounds a record, and bits 5 to 7 of byte 0 are
+-- cleared. The state after n records comes back with them, so that making n and then m records equals making n + m. Checks: 7 for a seed of 0 or a
+-- buffer not a multiple of 8 --
+
+-- the call is `xorshift::fill`: it answers `fillAnswer` of a seed and of the buffer's length, and leaves `fillBuffer`. A round is `round`, n records are
+-- `recordsFrom n seed`, the state after them is `stateAfter n seed`. The first states from two seeds, as they are published
+pub published-states : (statesFrom 5 2463534242 ≡ 723471715 ∷ 2497366906 ∷ 2064144800 ∷ 2008045182 ∷ 3532304609 ∷ [])
+    × (statesFrom 5 1 ≡ 270369 ∷ 67634689 ∷ 2647435461 ∷ 307599695 ∷ 2398689233 ∷ [])
+published-states = (marsaglia-first, one-first)
+
+-- a state that is not 0 never becomes 0, and a state has 32 bits
+pub state-stays-nonzero : (n x : ℕ) → x < 2 ^ 32 → (x ≡ 0 → ⊥) → (stateAfter n x ≡ 0 → ⊥) × (stateAfter n x < 2 ^ 32)
+state-stays-nonzero n x h f = (λ (e : stateAfter n x ≡ 0). f (state-nonzero n x h e), state-below n x h)
+
+-- making n and then m records equals making n + m: a call over a buffer a that answers a state, then one from that state over a buffer b of whole
+-- records. The second is not refused; it answers what one call over both buffers answers, and both calls leave what that one leaves (`InTwo`)
+pub records-in-two-calls : (seed state : ℕ) (a b : List ℕ) → seed < 2 ^ 32 → fillAnswer seed (length a) ≡ value state
+    → length b % recordLength ≡ 0 → InTwo seed state a b
+records-in-two-calls = in-two
+
+-- 7 for a seed of 0 or a buffer not a multiple of 8, and for nothing else; else the state after the records comes back
+pub fill-refuses : (seed size n : ℕ) → fillAnswer seed size ≡ refused n → (n ≡ 7) × ((seed ≡ 0) ⊎ (size % recordLength ≡ 0 → ⊥))
+fill-refuses seed size n e = (fill-number seed size n e, fill-refused seed size n e)
+
+pub fill-makes : (seed : ℕ) (out : List ℕ) → (seed ≡ 0 → ⊥) → length out % recordLength ≡ 0
+    → (fillAnswer seed (length out) ≡ value (stateAfter (length out / recordLength) seed))
+    × (fillBuffer seed out ≡ recordsFrom (length out / recordLength) seed)
+fill-makes seed out f w =
+    let t : Fits seed (length out) = record { seeded = f; whole = w } in
+    (fits-answer seed (length out) t, fits-buffer seed out t)
+
+-- what is made are whole records of bytes: one of the schedules of demand 3
+pub made-schedule : (n seed : ℕ) → Schedule (recordsFrom n seed)
+made-schedule n seed = record { whole = omega (arith, length-records n seed); bytes = records-bytes n seed }
+
+-- record k of them comes from the state after the k before it; bits 5 to 7 of its byte 0 are 0
+pub record-made-so : (n k seed : ℕ) → k < n
+    → (recordAt (recordsFrom n seed) k ≡ recordFrom (stateAfter k seed)) × (bitAnd (getD (recordAt (recordsFrom n seed) k) 0 0) 0xE0 ≡ 0)
+record-made-so n k seed h =
+    let e = record-made n k seed h in
+    (e, rw e (no-other-bit (stateAfter k seed)))
+
+-- bits 0 to 4 are the five requests: from every seed other than 0 each of them occurs within the first 32 records
+pub each-request-occurs : (i seed : ℕ) → i < 5 → seed < 2 ^ 32 → (seed ≡ 0 → ⊥)
+    → (k : ℕ) × (k < 32) × (getD (recordFrom (stateAfter k seed)) 0 0 / 2 ^ i % 2 ≡ 1)
+each-request-occurs = each-request
 
 -- Request 13. Lower-case HEX goes. Our programmers' sockets reject small letters, and mixed files caused returned chips. From now on the reader refuses
 -- them. For files already in the drawer one separate call turns in place an old line that breaks none of 1 to 3 as they stood into its upper-case line;

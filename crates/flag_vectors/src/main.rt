@@ -8,25 +8,11 @@ use test_support::Counts;
 use test_support::hex_byte;
 use test_support::print;
 use test_support::put;
-use test_support::read_byte;
+use test_support::read_line;
 use test_support::store;
 
 // A line without its end, zeros behind it; `undefined` makes the longest.
 type Line = [u8; 16];
-
-// Reads the next line, up to LF, the file's end or 16 characters, and answers its length.
-fn read_line(fd: i32, line: &mut Line) -> usize {
-    let mut n: usize = 0;
-    while n < 16 {
-        let b = read_byte(fd);
-        if (b == 10) | (b == 0) {
-            return n;
-        }
-        line[n] = b;
-        n += 1;
-    }
-    n
-}
 
 // A letter where a flag is named; where the next one goes.
 fn letter(line: &mut Line, at: u8, names: FlagSet, flag: Flag, c: u8) -> u8 {

@@ -1,12 +1,15 @@
-// Runs of the machine, to be timed: `machine_bench WHAT COUNT`. The first argument is the program, 0 for all, the second is thousands of records.
+// Runs of the machine, to be timed: `machine_bench WHAT COUNT SEED`. The first argument is the row, 0 for all, the second is thousands of records.
+// Every run's schedule is the 1,000 records that the seed gives, over and over, so that making them takes no time of it.
 // `bench/run` times it and prints a table; the gate's run is short and compares what each program leaves.
 use base::IMAGE_LENGTH;
 use base::RECORD_LENGTH;
 use semantics::State;
+use test_support::Rows;
 use test_support::print;
 use test_support::print_hex;
 use test_support::print_number;
 use test_support::put;
+use xorshift::Filled;
 
 // The records of one call of `run`, and their bytes.
 const PART: usize = 1000;
@@ -16,24 +19,25 @@ const SCHEDULE: usize = PART * RECORD_LENGTH;
 // Where reset starts.
 const START: usize = 0x100;
 
-// A loop that calls a routine, pushes and pops. The routine adds over a table by a pointer, and works on what it has added. The service
-// clears its pending bit.
-fn mixed_program(image: &mut [u8; IMAGE_LENGTH]) {
+// A loop that calls a routine, pushes and pops. The routine adds over a table by a pointer, and works on what it has added. Each turn of it writes
+// P0PND: 02H enables external interrupt 0, 00H leaves it disabled. The service disables it up to the next turn.
+fn mixed_program(image: &mut [u8; IMAGE_LENGTH], enable: u8) {
     put(image, 0, b"\x01\x80");
-    // LD SP,#C0H; LD P0PND,#02H; EI; LD R4,#01H; CALL 0140H; PUSH R4; POP R5; JR to CALL
+    // LD SP,#C0H; EI; LD R4,#01H; CALL 0140H; PUSH R4; POP R5; JR to CALL
     put(
         image,
         START,
-        b"\xE6\xD9\xC0\xE6\xE8\x02\x9F\x4C\x01\xF6\x01\x40\x70\xC4\x50\xC5\x8B\xF7",
+        b"\xE6\xD9\xC0\x9F\x4C\x01\xF6\x01\x40\x70\xC4\x50\xC5\x8B\xF7",
     );
-    // CLR R2; LD R3,@R2; ADD R4,R3; LD @R2,R4; INC R2; CP R2,#10H; JR C to LD; ADC R6,#55H; XOR R4,R5; RR R6; RET
+    // CLR R2; LD P0PND,#00H; LD R3,@R2; ADD R4,R3; LD @R2,R4; INC R2; CP R2,#10H; JR C to LD P0PND; ADC R6,#55H; XOR R4,R5; RR R6; RET
     put(
         image,
         0x140,
-        b"\xB0\xC2\xC7\x32\x02\x43\xD7\x24\x2E\xA6\xC2\x10\x7B\xF4\x16\xC6\x55\xB2\x45\xE0\xC6\xAF",
+        b"\xB0\xC2\xE6\xE8\x00\xC7\x32\x02\x43\xD7\x24\x2E\xA6\xC2\x10\x7B\xF1\x16\xC6\x55\xB2\x45\xE0\xC6\xAF",
     );
-    // PUSH R0; LD P0PND,#02H; INC R0; POP R0; IRET
-    put(image, 0x180, b"\x70\xC0\xE6\xE8\x02\x0E\x50\xC0\xBF");
+    put(image, 0x144, &[enable]);
+    // PUSH R0; LD P0PND,#00H; INC R0; POP R0; IRET
+    put(image, 0x180, b"\x70\xC0\xE6\xE8\x00\x0E\x50\xC0\xBF");
 }
 
 // A group's place in the table below.
@@ -86,28 +90,12 @@ fn group(what: u64, image: &mut [u8; IMAGE_LENGTH]) {
 
 fn program(what: u64) -> [u8; IMAGE_LENGTH] {
     let mut image = [255u8; IMAGE_LENGTH];
-    if (what == 2) | (what == 3) {
-        mixed_program(&mut image);
-    } else {
-        group(what, &mut image);
+    match what {
+        2 => mixed_program(&mut image, 0x00),
+        3 => mixed_program(&mut image, 0x02),
+        _ => group(what, &mut image),
     }
     image
-}
-
-// The schedule of one part: a request of P0.0 in one record of `every`, or none where it is 0.
-fn schedule(every: usize) -> [u8; SCHEDULE] {
-    let mut records = [0u8; SCHEDULE];
-    if every == 0 {
-        return records;
-    }
-    let mut i = 0;
-    while i < PART {
-        if i % every == 0 {
-            records[i * RECORD_LENGTH] = 4;
-        }
-        i += 1;
-    }
-    records
 }
 
 // The program from reset for `parts` parts.
@@ -142,10 +130,29 @@ fn tell(what: u64, s: State) {
     print(b"\n");
 }
 
-// 1 is a plain loop, 2 the mixed program, 3 the same with a request in one record of twelve, 4 to 13 are groups of instructions.
-fn work(what: u64, count: u64) {
-    let every = if what == 3 { 12 } else { 0 };
-    tell(what, run_parts(&program(what), &schedule(every), count));
+// 1 is a plain loop, 2 the mixed program, 3 the same with interrupts, 4 to 13 are groups of instructions.
+fn work(what: u64, count: u64, records: &[u8; SCHEDULE]) {
+    tell(what, run_parts(&program(what), records, count));
+}
+
+// Makes one part, and answers the state behind it, 0 where it is refused.
+fn make_part(seed: u32, records: &mut [u8; SCHEDULE]) -> u32 {
+    match xorshift::fill(seed, records) {
+        Filled::State(state) => state,
+        Filled::Refused(_) => 0,
+    }
+}
+
+// Makes `parts` parts, each from the state behind the one before, and answers the last state.
+fn make_parts(seed: u32, parts: u64) -> u32 {
+    let mut records = [0u8; SCHEDULE];
+    let mut state = seed;
+    let mut left = parts;
+    while left > 0 {
+        state = make_part(state, &mut records);
+        left -= 1;
+    }
+    state
 }
 
 fn argument(i: usize) -> u64 {
@@ -155,14 +162,35 @@ fn argument(i: usize) -> u64 {
 }
 
 // Two calls of `work` keep it a function of its own. With one the compiler puts it into `main`, and a step takes 3 in a hundred more instructions.
-fn main() {
-    let count = argument(2);
-    let rows = test_support::rows_of(argument(1), 13);
+fn work_rows(rows: Rows, count: u64, records: &[u8; SCHEDULE]) {
     let last = rows.last;
     let mut what = rows.first;
-    work(what, count);
+    work(what, count, records);
     while what < last {
         what += 1;
-        work(what, count);
+        work(what, count, records);
+    }
+}
+
+// The rows 1 to 13, or the one that is asked for.
+fn run_rows(what: u64, count: u64, seed: u32) {
+    let mut records = [0u8; SCHEDULE];
+    match xorshift::fill(seed, &mut records) {
+        Filled::State(_) => work_rows(test_support::rows_of(what, 13), count, &records),
+        Filled::Refused(_) => print(b"seed 0 is refused\n"),
+    }
+}
+
+// 14 makes records.
+fn main() {
+    let what = argument(1);
+    let count = argument(2);
+    let seed = (argument(3) % 4294967296) as u32;
+    if what != 14 {
+        run_rows(what, count, seed);
+    }
+    if (what == 0) | (what == 14) {
+        print_number(make_parts(seed, count) as u64);
+        print(b"\n");
     }
 }

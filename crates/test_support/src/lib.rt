@@ -151,6 +151,20 @@ pub fn read_byte(fd: i32) -> u8 {
     one[0]
 }
 
+// Reads the next line of a text, without its LF, up to the file's end or the slice's, and answers its length.
+pub fn read_line(fd: i32, line: &mut [u8]) -> usize {
+    let mut n: usize = 0;
+    while n < line.len() {
+        let b = read_byte(fd);
+        if (b == 10) | (b == 0) {
+            return n;
+        }
+        line[n] = b;
+        n += 1;
+    }
+    n
+}
+
 // Makes the next edit of a file, address 2 and byte 1; whether the file has it all.
 fn read_edit(fd: i32, bytes: &mut [u8]) -> bool
     ensures { λ _. ⌜ Edited (now (bytes .entry)) (now (bytes .exit)) ⌝ }
@@ -257,14 +271,14 @@ pub fn finish(fd: i32, c: Counts) {
     print_counts(c.compared, c.differ);
 }
 
-// The number that the decimal digits of an argument give, the last seven of them.
+// The number that decimal digits give, the last ten of them.
 pub fn number(text: &[u8]) -> u64
     ensures { λ r. ⌜ r ≡ numberOf (now (text .entry)) ⌝ }
 {
     let mut n: u64 = 0;
     let mut i = 0;
     while i < text.len() {
-        n = n % 1000000 * 10 + (text[i] % 16) as u64;
+        n = n % 1000000000 * 10 + (text[i] % 16) as u64;
         i += 1;
     }
     n

@@ -2,23 +2,14 @@
 -- Assumes nothing.
 use Prim.Native.Nat.{_-_}
 use borrow.Author.Needs.{needs}
-use Rattle.machine_bench.proofs.main.Statement.{statement}
-use Rattle.machine_bench.proofs.main.Tie as tie
+use Rattle.machine_bench.proofs.work_rows.Statement.{statement}
+use Rattle.machine_bench.proofs.work_rows.Tie as tie
 
 abbrev Inv-loop : tie.InvT-loop
-Inv-loop count last what₀ what = Unit {0}
+Inv-loop count records last what₀ what = Unit {0}
 
 abbrev μ-loop : tie.MeasureT-loop
-μ-loop count last what₀ what = last - what
-
-argument-requires : tie.Need-argument-requires Inv-loop μ-loop
-argument-requires c κs = search needs
-
-argument-requires-2 : tie.Need-argument-requires-2 Inv-loop μ-loop
-argument-requires-2 c κs = search needs
-
-rows-of-requires : tie.Need-rows-of-requires Inv-loop μ-loop
-rows-of-requires c κs = search needs
+μ-loop count records last what₀ what = last - what
 
 work-requires : tie.Need-work-requires Inv-loop μ-loop
 work-requires c κs = search needs
@@ -41,15 +32,12 @@ loop-again c = search needs
 returns : tie.Need-returns Inv-loop μ-loop
 returns c = search needs
 
-pub main-spec : {M : Type 1} → statement M
-main-spec =
+pub work-rows-spec : {M : Type 1} → statement M
+work-rows-spec =
     tie.close
     (tie.spec
     Inv-loop
     μ-loop
-    argument-requires
-    argument-requires-2
-    rows-of-requires
     work-requires
     loop-holds
     add-what
