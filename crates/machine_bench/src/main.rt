@@ -130,17 +130,24 @@ fn tell(what: u64, s: State) {
     print(b"\n");
 }
 
-// 1 is a plain loop, 2 the mixed program, 3 the same with interrupts, 4 to 13 are groups of instructions.
-fn work(what: u64, count: u64, records: &[u8; SCHEDULE]) {
-    tell(what, run_parts(&program(what), records, count));
-}
-
 // Makes one part, and answers the state behind it, 0 where it is refused.
 fn make_part(seed: u32, records: &mut [u8; SCHEDULE]) -> u32 {
     match xorshift::fill(seed, records) {
         Filled::State(state) => state,
         Filled::Refused(_) => 0,
     }
+}
+
+// The records of one part, as the seed gives them.
+fn schedule(seed: u32) -> [u8; SCHEDULE] {
+    let mut records = [0u8; SCHEDULE];
+    make_part(seed, &mut records);
+    records
+}
+
+// 1 is a plain loop, 2 the mixed program, 3 the same with interrupts, 4 to 13 are groups of instructions.
+fn work(what: u64, count: u64, seed: u32) {
+    tell(what, run_parts(&program(what), &schedule(seed), count));
 }
 
 // Makes `parts` parts, each from the state behind the one before, and answers the last state.
@@ -161,23 +168,14 @@ fn argument(i: usize) -> u64 {
     test_support::number(&text[..n])
 }
 
-// Two calls of `work` keep it a function of its own. With one the compiler puts it into `main`, and a step takes 3 in a hundred more instructions.
-fn work_rows(rows: Rows, count: u64, records: &[u8; SCHEDULE]) {
+// Two calls of `work` keep it a function of its own. With one the compiler puts it into its caller, and a step takes 3 in a hundred more instructions.
+fn work_rows(rows: Rows, count: u64, seed: u32) {
     let last = rows.last;
     let mut what = rows.first;
-    work(what, count, records);
+    work(what, count, seed);
     while what < last {
         what += 1;
-        work(what, count, records);
-    }
-}
-
-// The rows 1 to 13, or the one that is asked for.
-fn run_rows(what: u64, count: u64, seed: u32) {
-    let mut records = [0u8; SCHEDULE];
-    match xorshift::fill(seed, &mut records) {
-        Filled::State(_) => work_rows(test_support::rows_of(what, 13), count, &records),
-        Filled::Refused(_) => print(b"seed 0 is refused\n"),
+        work(what, count, seed);
     }
 }
 
@@ -186,8 +184,12 @@ fn main() {
     let what = argument(1);
     let count = argument(2);
     let seed = (argument(3) % 4294967296) as u32;
+    if seed == 0 {
+        print(b"a seed of 0 is refused\n");
+        return;
+    }
     if what != 14 {
-        run_rows(what, count, seed);
+        work_rows(test_support::rows_of(what, 13), count, seed);
     }
     if (what == 0) | (what == 14) {
         print_number(make_parts(seed, count) as u64);

@@ -6,10 +6,10 @@ use Rattle.machine_bench.proofs.work_rows.Statement.{statement}
 use Rattle.machine_bench.proofs.work_rows.Tie as tie
 
 abbrev Inv-loop : tie.InvT-loop
-Inv-loop count records last what₀ what = Unit {0}
+Inv-loop count seed last what₀ what = Unit {0}
 
 abbrev μ-loop : tie.MeasureT-loop
-μ-loop count records last what₀ what = last - what
+μ-loop count seed last what₀ what = last - what
 
 work-requires : tie.Need-work-requires Inv-loop μ-loop
 work-requires c κs = search needs

@@ -1,6 +1,6 @@
 -- `fill`: each return by the tests that led there.
 -- Assumes nothing.
-use mathlib.Core.Path.{refl, ap}
+use mathlib.Core.Path.{_≡_, refl, ap}
 use borrow.Author.Tests.{eq-eqb, ne-eqb}
 use Rattle.base.specs.Outcome.Outcome.{value}
 use Rattle.xorshift.specs.Xorshift.{fillAnswer, fillBuffer}
@@ -10,7 +10,9 @@ use Rattle.xorshift.proofs.fill.Tie as tie
 
 returns : tie.Need-returns
 unfolding fillAnswer fillBuffer
-returns c = rw (eq-eqb _ _ (c .if1 .taken)) (refl, refl)
+returns c =
+    let zero : c .before .before .args .seed ≡ 0 = c .if1 .taken in
+    rw zero (refl, refl)
 
 returns-2 : tie.Need-returns-2
 unfolding fillAnswer fillBuffer
