@@ -1,6 +1,7 @@
--- What holds of every cell of a list: where all hold one value, and once another is stored.
+-- What holds of every cell of a list: where all hold one value, and once another is stored. Lists of bytes.
 -- Assumes nothing.
-use mathlib.Core.List.{List, [], _∷_}
+use mathlib.Core.List.{List, [], _∷_, _++_, map}
+use native.Mathlib.Omega.{arith}
 use Prim.Native.Nat.{ℕ, zero, suc, _<_}
 use lib.ListN.{getD, set, replicate}
 
@@ -23,3 +24,15 @@ set-cells P (y ∷ l) (suc a) x h p (suc k) = set-cells (λ (i v : ℕ). P (suc 
 -- every cell holds a byte
 abbrev pub Bytes : List ℕ → Type 0
 Bytes = Cells (λ (k x : ℕ). x < 256)
+
+pub bytes-cons : (b : ℕ) (r : List ℕ) → b < 256 → Bytes r → Bytes (b ∷ r)
+bytes-cons b r h p zero = h
+bytes-cons b r h p (suc k) = p k
+
+pub bytes-append : (a b : List ℕ) → Bytes a → Bytes b → Bytes (a ++ b)
+bytes-append [] b p q = q
+bytes-append (x ∷ a) b p q = bytes-cons x (a ++ b) (p zero) (bytes-append a b (λ (k : ℕ). p (suc k)) q)
+
+pub bytes-map : (f : ℕ → ℕ) → ((i : ℕ) → f i < 256) → (l : List ℕ) → Bytes (map f l)
+bytes-map f h [] = λ (k : ℕ). omega arith
+bytes-map f h (i ∷ l) = bytes-cons (f i) (map f l) (h i) (bytes-map f h l)

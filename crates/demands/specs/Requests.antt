@@ -52,10 +52,10 @@ use Rattle.hex_upper.specs.Former.{smallLetter, NoSmall, formerLine, formerBuff
 use Rattle.hex_upper.specs.Upper.{upperAnswer, upperLine}
 use Rattle.hex_upper.specs.SmallLetters as small
 use Rattle.hex_upper.specs.UpperTheorems as upper
-use Rattle.xorshift.specs.Xorshift.{recordFrom, recordsFrom, stateAfter, fillAnswer, fillBuffer}
+use Rattle.xorshift.specs.Xorshift.{round, recordFrom, recordsFrom, stateAfter, fillAnswer, fillBuffer}
 use Rattle.xorshift.specs.RecordLaws.{length-records, records-bytes, record-made, no-other-bit}
-use Rattle.xorshift.specs.Nonzero.{state-nonzero, state-below}
-use Rattle.xorshift.specs.Fill.{Fits, fits-answer, fits-buffer, fill-number, fill-refused, InTwo, in-two}
+use Rattle.xorshift.specs.Nonzero.{round-nonzero, round-below, state-nonzero, state-below}
+use Rattle.xorshift.specs.Fill.{Fits, fits-answer, fits-buffer, fill-refused, InTwo, in-two}
 use Rattle.xorshift.specs.Occurs.{each-request}
 use Rattle.xorshift.specs.Values.{statesFrom, marsaglia-first, one-first}
 
@@ -144,7 +144,10 @@ pub published-states : (statesFrom 5 2463534242 ≡ 723471715 ∷ 2497366906 ∷
     × (statesFrom 5 1 ≡ 270369 ∷ 67634689 ∷ 2647435461 ∷ 307599695 ∷ 2398689233 ∷ [])
 published-states = (marsaglia-first, one-first)
 
--- a state that is not 0 never becomes 0, and a state has 32 bits
+-- a state that is not 0 never becomes 0, neither after a round nor after n records, and a state has 32 bits
+pub round-stays-nonzero : (x : ℕ) → x < 2 ^ 32 → (x ≡ 0 → ⊥) → (round x ≡ 0 → ⊥) × (round x < 2 ^ 32)
+round-stays-nonzero x h f = (λ (e : round x ≡ 0). f (round-nonzero x h e), round-below x h)
+
 pub state-stays-nonzero : (n x : ℕ) → x < 2 ^ 32 → (x ≡ 0 → ⊥) → (stateAfter n x ≡ 0 → ⊥) × (stateAfter n x < 2 ^ 32)
 state-stays-nonzero n x h f = (λ (e : stateAfter n x ≡ 0). f (state-nonzero n x h e), state-below n x h)
 
@@ -154,10 +157,11 @@ pub records-in-two-calls : (seed state : ℕ) (a b : List ℕ) → seed < 2 ^ 32
     → length b % recordLength ≡ 0 → InTwo seed state a b
 records-in-two-calls = in-two
 
--- 7 for a seed of 0 or a buffer not a multiple of 8, and for nothing else; else the state after the records comes back
-pub fill-refuses : (seed size n : ℕ) → fillAnswer seed size ≡ refused n → (n ≡ 7) × ((seed ≡ 0) ⊎ (size % recordLength ≡ 0 → ⊥))
-fill-refuses seed size n e = (fill-number seed size n e, fill-refused seed size n e)
+-- 7 for a seed of 0 or a buffer not a multiple of 8
+pub fill-refuses : (seed size : ℕ) → (seed ≡ 0) ⊎ (size % recordLength ≡ 0 → ⊥) → fillAnswer seed size ≡ refused 7
+fill-refuses = fill-refused
 
+-- for nothing else: any other buffer is filled with records, and the state after them comes back
 pub fill-makes : (seed : ℕ) (out : List ℕ) → (seed ≡ 0 → ⊥) → length out % recordLength ≡ 0
     → (fillAnswer seed (length out) ≡ value (stateAfter (length out / recordLength) seed))
     × (fillBuffer seed out ≡ recordsFrom (length out / recordLength) seed)
@@ -170,9 +174,9 @@ pub made-schedule : (n seed : ℕ) → Schedule (recordsFrom n seed)
 made-schedule n seed = record { whole = omega (arith, length-records n seed); bytes = records-bytes n seed }
 
 -- record k of them comes from the state after the k before it; bits 5 to 7 of its byte 0 are 0
-pub record-made-so : (n k seed : ℕ) → k < n
+pub made-record : (n k seed : ℕ) → k < n
     → (recordAt (recordsFrom n seed) k ≡ recordFrom (stateAfter k seed)) × (bitAnd (getD (recordAt (recordsFrom n seed) k) 0 0) 0xE0 ≡ 0)
-record-made-so n k seed h =
+made-record n k seed h =
     let e = record-made n k seed h in
     (e, rw e (no-other-bit (stateAfter k seed)))
 

@@ -1,6 +1,5 @@
 // Makes schedules from seeds: published states, every length from 0 to 17, and the cases of the file sched.txt, and prints what differs.
 // A line of the file: seed, number of records, their digits, the state behind them; or seed, number of records, and the number of the refusal.
-ghost use Prim.Native.Nat.{_≤_};
 use base::RECORD_LENGTH;
 use test_support::Case;
 use test_support::Counts;
@@ -14,8 +13,8 @@ const MOST: usize = 4000;
 
 const BYTES: usize = MOST * RECORD_LENGTH;
 
-// The digits of the records, a blank, and the digits of the state.
-const LINE: usize = 2 * BYTES + 9;
+// The digits of the records, a blank, the digits of the state, and LF.
+const LINE: usize = 2 * BYTES + 10;
 
 type Line = [u8; LINE];
 
@@ -30,9 +29,10 @@ fn put_byte(line: &mut Line, at: usize, b: u8) {
 }
 
 // The first n bytes of the records.
-fn put_bytes(line: &mut Line, records: &[u8; BYTES], n: usize)
-    requires { ⌜ n ≤ 32000 ⌝ }
-{
+fn put_bytes(line: &mut Line, records: &[u8; BYTES], n: usize) {
+    if n > BYTES {
+        return;
+    }
     let mut i: usize = 0;
     while i < n {
         put_byte(line, 2 * i, records[i]);
@@ -50,9 +50,10 @@ fn byte_from(state: u32, bit: u32) -> u8 {
 }
 
 // A blank behind n bytes of the records, and the state.
-fn put_state(line: &mut Line, n: usize, state: u32)
-    requires { ⌜ n ≤ 32000 ⌝ }
-{
+fn put_state(line: &mut Line, n: usize, state: u32) {
+    if n > BYTES {
+        return;
+    }
     let at = 2 * n;
     put(line, at, b" ");
     put_byte(line, at + 1, byte_from(state, 24));
@@ -87,28 +88,31 @@ fn line_of(seed: u32, count: usize) -> Line {
     line
 }
 
-// Reads a number of at most ten decimal digits, and the character behind it.
-fn read_number(fd: i32) -> u64 {
+// Reads the rest of a number of at most ten decimal digits, whose first character is given, and the character behind it.
+fn read_number(fd: i32, first: u8) -> u64 {
     let mut number: u64 = 0;
+    let mut b = first;
     let mut left: u8 = 11;
     while left > 0 {
-        let b = test_support::read_byte(fd);
         if (b < 48) | (57 < b) {
             return number;
         }
-        number = number % 1000000000 * 10 + (b % 16) as u64;
+        number = test_support::with_digit(number, b);
+        b = test_support::read_byte(fd);
         left -= 1;
     }
     number
 }
 
 fn run_case(fd: i32, counts: Counts) -> Case {
-    let seed = read_number(fd);
-    let count = read_number(fd);
-    let mut line = [0u8; LINE];
-    if test_support::read_line(fd, &mut line) == 0 {
+    let first = test_support::read_byte(fd);
+    if first == 0 {
         return Case::End;
     }
+    let seed = read_number(fd, first);
+    let count = read_number(fd, test_support::read_byte(fd));
+    let mut line = [0u8; LINE];
+    test_support::read_line(fd, &mut line);
     let made = line_of((seed % 4294967296) as u32, count as usize);
     if check::same(&line, &made) {
         return Case::Same;

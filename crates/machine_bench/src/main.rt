@@ -1,5 +1,5 @@
 // Runs of the machine, to be timed: `machine_bench WHAT COUNT SEED`. The first argument is the row, 0 for all, the second is thousands of records.
-// Every run's schedule is the 1,000 records that the seed gives, over and over, so that making them takes no time of it.
+// Every run's schedule is the first 1,000 records that the seed gives, over and over, so that making them takes no time of it.
 // `bench/run` times it and prints a table; the gate's run is short and compares what each program leaves.
 use base::IMAGE_LENGTH;
 use base::RECORD_LENGTH;
@@ -183,9 +183,10 @@ fn work_rows(rows: Rows, count: u64, seed: u32) {
 fn main() {
     let what = argument(1);
     let count = argument(2);
-    let seed = (argument(3) % 4294967296) as u32;
-    if seed == 0 {
-        print(b"a seed of 0 is refused\n");
+    let given = argument(3);
+    let seed = (given % 4294967296) as u32;
+    if (seed == 0) | (seed as u64 != given) {
+        print(b"a seed is 1 to 4294967295\n");
         return;
     }
     if what != 14 {

@@ -11,14 +11,14 @@ use semantics::State;
 use xorshift::Filled;
 
 // The most records of one call of `run`, and their bytes.
-const PART: usize = 1000;
+const PART: u64 = 1000;
 
-const SCHEDULE: usize = PART * RECORD_LENGTH;
+const SCHEDULE: usize = (PART as usize) * RECORD_LENGTH;
 
 // The greatest seed, and the greatest number of records.
 const GREATEST: u64 = 4294967295;
 
-// Where a run is: the machine, the steps done, the number that ended it, and the seed of the records that follow.
+// Where a run is: the machine, the steps done, the number that ended it, and, where none did, the seed of the records that follow.
 struct Progress {
     state: State,
     steps: u64,
@@ -82,7 +82,7 @@ fn run_records(image: &[u8; IMAGE_LENGTH], p: Progress, records: &mut [u8]) -> P
 }
 
 // Goes on over the next n records, unless the run has ended.
-fn run_part(image: &[u8; IMAGE_LENGTH], p: Progress, n: usize) -> Progress {
+fn run_part(image: &[u8; IMAGE_LENGTH], p: Progress, n: u64) -> Progress {
     if p.stop != 0 {
         return p;
     }
@@ -90,7 +90,7 @@ fn run_part(image: &[u8; IMAGE_LENGTH], p: Progress, n: usize) -> Progress {
         return p;
     }
     let mut records = [0u8; SCHEDULE];
-    let length = n * RECORD_LENGTH;
+    let length = (n as usize) * RECORD_LENGTH;
     run_records(image, p, &mut records[..length])
 }
 
@@ -104,11 +104,11 @@ fn run_parts(image: &[u8; IMAGE_LENGTH], seed: u32, count: u64) -> Progress {
         seed: seed,
     };
     let mut left = count;
-    while left > 1000 {
+    while left > PART {
         p = run_part(image, p, PART);
-        left -= 1000;
+        left -= PART;
     }
-    run_part(image, p, left as usize)
+    run_part(image, p, left)
 }
 
 fn print(text: &[u8]) {
@@ -155,7 +155,9 @@ fn tell(p: Progress) {
     io::print_hex(STDOUT_FILENO, pc.0 as u64, 4);
     print(b"\n");
     print_mode(mode);
-    print_row(b"next seed ", p.seed as u64);
+    if p.stop == 0 {
+        print_row(b"next seed ", p.seed as u64);
+    }
     print_registers(state);
 }
 

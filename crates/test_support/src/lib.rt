@@ -4,7 +4,7 @@ ghost use Prim.Native.Nat.{_+_, _-_, _*_, _%_, _≤_};
 ghost use mathlib.Core.Path.{_≡_};
 ghost use lib.ListN.{set};
 ghost use lib.Seq.{sets};
-ghost use Rattle.test_support.specs.Arguments.{numberOf, rowsOf};
+ghost use Rattle.test_support.specs.Arguments.{withDigit, numberOf, rowsOf};
 ghost use Rattle.test_support.specs.Numbers.{hexValue, wordAt, longAt};
 ghost use Rattle.test_support.specs.Edits.{Edited};
 ghost use Rattle.test_support.specs.Counts.{startOf, countedOf};
@@ -271,6 +271,13 @@ pub fn finish(fd: i32, c: Counts) {
     print_counts(c.compared, c.differ);
 }
 
+// A number with one more decimal digit behind it, of ten digits at most.
+pub fn with_digit(n: u64, digit: u8) -> u64
+    ensures { λ r. ⌜ r ≡ withDigit n digit ⌝ }
+{
+    n % 1000000000 * 10 + (digit % 16) as u64
+}
+
 // The number that decimal digits give, the last ten of them.
 pub fn number(text: &[u8]) -> u64
     ensures { λ r. ⌜ r ≡ numberOf (now (text .entry)) ⌝ }
@@ -278,7 +285,7 @@ pub fn number(text: &[u8]) -> u64
     let mut n: u64 = 0;
     let mut i = 0;
     while i < text.len() {
-        n = n % 1000000000 * 10 + (text[i] % 16) as u64;
+        n = with_digit(n, text[i]);
         i += 1;
     }
     n

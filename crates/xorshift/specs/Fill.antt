@@ -1,18 +1,19 @@
 -- What the call that fills a buffer answers and leaves: a refusal by 7 with the buffer as it was, or whole records; n records and then m are n + m.
 -- Assumes nothing.
-use Prim.Native.Nat.{ℕ, _+_, _*_, _/_, _%_, _^_, _<_}
+use Prim.Native.Nat.{ℕ, _+_, _/_, _%_, _^_, _<_}
 use mathlib.Core.Path.{_≡_, refl, sym, ap, _∙_}
+use mathlib.Core.Bool.{true, false}
 use mathlib.Core.Logic.{_⊎_, inl, inr}
 use mathlib.Core.List.{List, _++_}
 use native.Mathlib.Omega.{arith}
 use lib.Dec.{eqb}
 use lib.ListN.{length, length-append}
-use borrow.Author.Tests.{eqb-true, eqb-false, eq-eqb, ne-eqb}
-use Rattle.base.specs.ChoiceLaws.{pick-has}
+use borrow.Author.Tests.{eqb-true, eqb-false, ne-eqb}
+use Rattle.base.specs.ChoiceLaws.{pick-has, pick-same, first-fails}
 use Rattle.base.specs.Lengths.{recordLength}
 use Rattle.base.specs.Outcome.{Outcome}
 use Rattle.base.specs.Outcome.Outcome.{value, refused}
-use Rattle.xorshift.specs.Xorshift.{recordsFrom, stateAfter, fillAnswer, fillBuffer}
+use Rattle.xorshift.specs.Xorshift.{recordsFrom, stateAfter, taken, fillAnswer, fillBuffer}
 use Rattle.xorshift.specs.RecordLaws.{length-records, records-add, state-add}
 use Rattle.xorshift.specs.Nonzero.{state-nonzero}
 
@@ -24,16 +25,16 @@ pub record Fits (seed size : ℕ) : Type 0 where
 -- the answer to a seed and a buffer's length: the state after the records, where they fit; else 7
 abbrev Answers : ℕ → ℕ → Outcome ℕ → Type 0
 Answers seed size (value state) = Fits seed size × (state ≡ stateAfter (size / recordLength) seed)
-Answers seed size (refused n) = (n ≡ 7) × ((seed ≡ 0) ⊎ (size % recordLength ≡ 0 → ⊥))
+Answers seed size (refused n) = n ≡ 7
+
+pub taken-fits : (seed size : ℕ) → taken seed size ≡ true → Fits seed size
+taken-fits seed size t =
+    let b = first-fails (eqb seed 0) (eqb (size % recordLength) 0) t in
+    record { seeded = eqb-false seed 0 (b .0); whole = eqb-true (size % recordLength) 0 (b .1) }
 
 answers : (seed size : ℕ) → Answers seed size (fillAnswer seed size)
 unfolding fillAnswer
-answers seed size =
-    pick-has (Answers seed size) (eqb seed 0) _ _
-    (λ z. (refl, inl (eqb-true seed 0 z)))
-    (λ s. pick-has (Answers seed size) (eqb (size % recordLength) 0) _ _
-    (λ w. (record { seeded = eqb-false seed 0 s; whole = eqb-true (size % recordLength) 0 w }, refl))
-    (λ o. (refl, inr (eqb-false (size % recordLength) 0 o))))
+answers seed size = pick-has (Answers seed size) (taken seed size) _ _ (λ t. (taken-fits seed size t, refl)) (λ o. refl)
 
 pub fits-answer : (seed size : ℕ) → Fits seed size → fillAnswer seed size ≡ value (stateAfter (size / recordLength) seed)
 unfolding fillAnswer
@@ -52,10 +53,12 @@ answered-state seed size state e = (rw e at (answers seed size)) .1
 
 -- where it refuses
 pub fill-number : (seed size n : ℕ) → fillAnswer seed size ≡ refused n → n ≡ 7
-fill-number seed size n e = (rw e at (answers seed size)) .0
+fill-number seed size n e = rw e at (answers seed size)
 
-pub fill-refused : (seed size n : ℕ) → fillAnswer seed size ≡ refused n → (seed ≡ 0) ⊎ (size % recordLength ≡ 0 → ⊥)
-fill-refused seed size n e = (rw e at (answers seed size)) .1
+pub fill-refused : (seed size : ℕ) → (seed ≡ 0) ⊎ (size % recordLength ≡ 0 → ⊥) → fillAnswer seed size ≡ refused 7
+unfolding fillAnswer
+fill-refused seed size (inl z) = rw z
+fill-refused seed size (inr o) = rw (ne-eqb (size % recordLength) 0 o, pick-same (eqb seed 0) false)
 
 pub fill-unchanged : (seed : ℕ) (out : List ℕ) (n : ℕ) → fillAnswer seed (length out) ≡ refused n → fillBuffer seed out ≡ out
 unfolding fillBuffer

@@ -1,12 +1,12 @@
 -- A state that is not 0 never becomes 0, and a state has 32 bits.
 -- Assumes nothing.
-use Prim.Native.Nat.{ℕ, zero, suc, _+_, _*_, _/_, _%_, _^_, _≤_, _<_}
+use Prim.Native.Nat.{ℕ, zero, suc, _+_, _*_, _/_, _%_, _^_, _<_}
 use mathlib.Core.Path.{_≡_, refl, sym, ap, _∙_}
 use native.Mathlib.Nat.{div-le-self, div-lt-self, lt-of-le-of-lt, mod-add-div', mod-lt, mul-assoc, pow-suc, pow-succ', zero-lt-suc}
 use native.Mathlib.Omega.{arith}
 use lib.Bits.{bitXor, xor-add-and, xor-lt, and-le-l, and-le-r}
 use lib.Pow.{pow-pos}
-use Rattle.xorshift.specs.Xorshift.{xorLeft, xorRight, round, stateAfter}
+use Rattle.xorshift.specs.Xorshift.{xorLeft, xorRight, round, nextState, stateAfter}
 
 xor-zero : (a b : ℕ) → bitXor a b ≡ 0 → a ≡ b
 xor-zero a b e = omega (arith, xor-add-and a b, and-le-l a b, and-le-r a b)
@@ -61,11 +61,11 @@ round-nonzero x h e =
 pub state-below : (n x : ℕ) → x < 2 ^ 32 → stateAfter n x < 2 ^ 32
 unfolding stateAfter
 state-below zero x h = h
-state-below (suc n) x h = state-below n (round (round x)) (round-below (round x) (round-below x h))
+state-below (suc n) x h = state-below n (nextState x) (round-below (round x) (round-below x h))
 
 pub state-nonzero : (n x : ℕ) → x < 2 ^ 32 → stateAfter n x ≡ 0 → x ≡ 0
 unfolding stateAfter
 state-nonzero zero x h e = e
 state-nonzero (suc n) x h e =
     round-nonzero x h
-    (round-nonzero (round x) (round-below x h) (state-nonzero n (round (round x)) (round-below (round x) (round-below x h)) e))
+    (round-nonzero (round x) (round-below x h) (state-nonzero n (nextState x) (round-below (round x) (round-below x h)) e))

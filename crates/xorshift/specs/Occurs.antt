@@ -14,7 +14,7 @@ use Rattle.base.specs.Bits.{xor-exchange}
 use Rattle.base.specs.Choice.{from}
 use Rattle.base.specs.Formula.{le?, same?}
 use Rattle.base.specs.Table.{agree}
-use Rattle.xorshift.specs.Xorshift.{xorLeft, xorRight, round, byteOf, recordFrom, stateAfter}
+use Rattle.xorshift.specs.Xorshift.{xorLeft, xorRight, round, nextState, recordFrom, stateAfter}
 
 -- f is linear over XOR
 record Linear (f : ℕ → ℕ) : Type 0 where
@@ -55,13 +55,14 @@ round-linear = after (xor-left 5) (after (xor-right 17) (xor-left 13))
 
 -- byte 0 of the record from a state, and of each of n records
 abbrev requests : ℕ → ℕ
-requests x = bitAnd (byteOf (round x) 0) 0x1F
+requests x = getD (recordFrom x) 0 0
 
 requestsFrom : ℕ → ℕ → List ℕ
 requestsFrom zero x = []
-requestsFrom (suc n) x = requests x ∷ requestsFrom n (round (round x))
+requestsFrom (suc n) x = requests x ∷ requestsFrom n (nextState x)
 
 requests-linear : Linear requests
+unfolding recordFrom
 requests-linear = after (mask 5) (after (low 8) (after (right 0) round-linear))
 
 abbrev bit : ℕ → ℕ → ℕ
@@ -101,7 +102,7 @@ unfolding recover requestsFrom stateAfter
 found i zero ts x ne = absurd (ne refl)
 found i (suc n) ts x ne =
     ⊎-elim
-    (λ (z : bit i (requests x) ≡ 0). let o = found i n (drop 1 ts) (round (round x)) (rw z at ne) in (suc (o .0), omega arith, o .2))
+    (λ (z : bit i (requests x) ≡ 0). let o = found i n (drop 1 ts) (nextState x) (rw z at ne) in (suc (o .0), omega arith, o .2))
     (λ (o : bit i (requests x) ≢ 0). (0, omega arith, omega arith)) (same? (bit i (requests x)) 0)
 
 -- a linear function that keeps each power of 2 below 2 ^ w keeps each number below it
@@ -145,7 +146,7 @@ recoverAll : ℕ → List ℕ
 recoverAll x = let rs = requestsFrom 32 x in map (λ (i : ℕ). recover i (table i) rs) (from 5 0)
 
 powers-recovered : map (λ (b : ℕ). recoverAll (2 ^ b)) (from 32 0) ≡ map (λ (b : ℕ). map (λ (i : ℕ). 2 ^ b) (from 5 0)) (from 32 0)
-unfolding recoverAll recover requestsFrom round tables
+unfolding recoverAll recover requestsFrom recordFrom round tables
 powers-recovered = refl
 
 power-recovered : (i : ℕ) → i < 5 → (b : ℕ) → b < 32 → recover i (table i) (requestsFrom 32 (2 ^ b)) ≡ 2 ^ b
@@ -156,7 +157,6 @@ power-recovered i h b g =
 
 pub each-request : (i x : ℕ) → i < 5 → x < 2 ^ 32 → (x ≡ 0 → ⊥)
     → (k : ℕ) × (k < 32) × (getD (recordFrom (stateAfter k x)) 0 0 / 2 ^ i % 2 ≡ 1)
-unfolding recordFrom
 each-request i x h g ne =
     let e = kept (recover-linear i 32 (table i)) 32 (power-recovered i h) x g in
     found i 32 (table i) x (λ z. ne (sym e ∙ z))

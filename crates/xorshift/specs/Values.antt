@@ -5,7 +5,7 @@ use mathlib.Core.Path.{_≡_, refl}
 use mathlib.Core.List.{List, [], _∷_}
 use Rattle.xorshift.specs.Xorshift.{round}
 
--- the states after n rounds
+-- the first n states, one after each round
 abbrev pub statesFrom : ℕ → ℕ → List ℕ
 statesFrom zero x = []
 statesFrom (suc n) x = round x ∷ statesFrom n (round x)

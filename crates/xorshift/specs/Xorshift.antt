@@ -1,6 +1,7 @@
 -- Schedules by Marsaglia's 32-bit xorshift: a round, the record behind a state, the records from a seed, and the call that fills a buffer with them.
 -- Assumes nothing.
 use Prim.Native.Nat.{ℕ, zero, suc, _*_, _/_, _%_, _^_}
+use mathlib.Core.Bool.{Bool, false}
 use mathlib.Core.List.{List, [], _∷_, _++_, map}
 use lib.Bits.{bitAnd, bitXor}
 use lib.Dec.{eqb}
@@ -36,26 +37,31 @@ cleared [] = []
 cleared (b ∷ r) = bitAnd b 0x1F ∷ r
 
 -- two rounds a record
+abbrev pub nextState : ℕ → ℕ
+nextState x = round (round x)
+
 unfoldable pub recordFrom : ℕ → List ℕ
-recordFrom x = cleared (fourBytes (round x) ++ fourBytes (round (round x)))
+recordFrom x = cleared (fourBytes (round x) ++ fourBytes (nextState x))
 
 -- n records, and the state after them
 unfoldable pub recordsFrom : ℕ → ℕ → List ℕ
 recordsFrom zero x = []
-recordsFrom (suc n) x = recordFrom x ++ recordsFrom n (round (round x))
+recordsFrom (suc n) x = recordFrom x ++ recordsFrom n (nextState x)
 
 unfoldable pub stateAfter : ℕ → ℕ → ℕ
 stateAfter zero x = x
-stateAfter (suc n) x = stateAfter n (round (round x))
+stateAfter (suc n) x = stateAfter n (nextState x)
 
 abbrev pub filledOutcome : Filled → Outcome ℕ
 filledOutcome (Filled.State state) = value state
 filledOutcome (Filled.Refused number) = refused number
 
--- of a seed and a buffer's length. 7: a seed of 0, or a buffer not a multiple of 8
+-- 7 for a seed of 0 or a buffer not a multiple of 8; any other seed and buffer's length are taken
+abbrev pub taken : ℕ → ℕ → Bool
+taken seed size = pick (eqb seed 0) false (eqb (size % recordLength) 0)
+
 unfoldable pub fillAnswer : ℕ → ℕ → Outcome ℕ
-fillAnswer seed size =
-    pick (eqb seed 0) (refused 7) (pick (eqb (size % recordLength) 0) (value (stateAfter (size / recordLength) seed)) (refused 7))
+fillAnswer seed size = pick (taken seed size) (value (stateAfter (size / recordLength) seed)) (refused 7)
 
 -- the buffer behind it: full of records, unchanged where it is refused
 unfoldable pub fillBuffer : ℕ → List ℕ → List ℕ

@@ -4,7 +4,7 @@ ghost use mathlib.Core.List.{_++_};
 ghost use Prim.Native.Nat.{_/_, _%_, _≤_};
 ghost use lib.ListN.{length, drop};
 ghost use Rattle.base.specs.Lengths.{recordLength};
-ghost use Rattle.xorshift.specs.Xorshift.{round, fourBytes, recordFrom, stateAfter, recordsFrom, filledOutcome, fillAnswer, fillBuffer};
+ghost use Rattle.xorshift.specs.Xorshift.{round, fourBytes, nextState, recordFrom, stateAfter, recordsFrom, filledOutcome, taken, fillAnswer, fillBuffer};
 use base::RECORD_LENGTH;
 
 // The state behind the records that were made; or a refusal by 7.
@@ -36,7 +36,7 @@ fn write_state(state: u32, out: &mut [u8])
 // Writes the record behind a state at the front of a part of the buffer, and answers the state behind it.
 fn write_record(state: u32, out: &mut [u8]) -> u32
     requires { ⌜ recordLength ≤ length (now out) ⌝ }
-    ensures { λ r. ⌜ r ≡ round (round state) ⌝ }
+    ensures { λ r. ⌜ r ≡ nextState state ⌝ }
     ensures { λ _. ⌜ now (out .exit) ≡ recordFrom state ++ drop recordLength (now (out .entry)) ⌝ }
 {
     let first = round(state);
@@ -62,16 +62,23 @@ fn write_records(seed: u32, out: &mut [u8]) -> u32
     state
 }
 
+// Whether a seed is taken with a buffer of this length: not 0, and room for whole records.
+fn taken(seed: u32, length: usize) -> bool
+    ensures { λ r. ⌜ r ≡ taken seed length ⌝ }
+{
+    if seed == 0 {
+        return false;
+    }
+    length % RECORD_LENGTH == 0
+}
+
 // Fills a lent buffer with the records that a seed gives, and answers the state behind them, which is the seed of the records that follow.
 // A seed of 0 and a length that is no multiple of 8 are refused by 7, and the buffer is as it was.
 pub fn fill(seed: u32, out: &mut [u8]) -> Filled
     ensures { λ r. ⌜ filledOutcome r ≡ fillAnswer seed (length (now (out .entry))) ⌝ }
     ensures { λ _. ⌜ now (out .exit) ≡ fillBuffer seed (now (out .entry)) ⌝ }
 {
-    if seed == 0 {
-        return Filled::Refused(7);
-    }
-    if out.len() % RECORD_LENGTH != 0 {
+    if !taken(seed, out.len()) {
         return Filled::Refused(7);
     }
     Filled::State(write_records(seed, out))

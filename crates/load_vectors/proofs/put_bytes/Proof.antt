@@ -11,6 +11,9 @@ Inv-loop line₀ records n i₀ line i = i ≤ n
 abbrev μ-loop : tie.MeasureT-loop
 μ-loop line₀ records n i₀ line i = n - i
 
+returns : tie.Need-returns Inv-loop μ-loop
+returns c = search needs
+
 loop-holds : tie.Need-loop-holds Inv-loop μ-loop
 loop-holds c = search needs
 
@@ -32,8 +35,8 @@ loop-less c = search needs
 loop-again : tie.Need-loop-again Inv-loop μ-loop
 loop-again c = search needs
 
-returns : tie.Need-returns Inv-loop μ-loop
-returns c = search needs
+returns-2 : tie.Need-returns-2 Inv-loop μ-loop
+returns-2 c = search needs
 
 pub put-bytes-spec : {M : Type 1} → statement M
 put-bytes-spec =
@@ -41,6 +44,7 @@ put-bytes-spec =
     (tie.spec
     Inv-loop
     μ-loop
+    returns
     loop-holds
     mul-put-byte
     element-copy-out-put-byte
@@ -48,4 +52,4 @@ put-bytes-spec =
     add-i
     loop-less
     loop-again
-    returns)
+    returns-2)

@@ -5,28 +5,22 @@ use Rattle.load_vectors.proofs.read_number.Statement.{statement}
 use Rattle.load_vectors.proofs.read_number.Tie as tie
 
 abbrev Inv-loop : tie.InvT-loop
-Inv-loop fd number₀ left₀ number left = Unit {0}
+Inv-loop fd first number₀ b₀ left₀ number b left = Unit {0}
 
 abbrev μ-loop : tie.MeasureT-loop
-μ-loop fd number₀ left₀ number left = left
+μ-loop fd first number₀ b₀ left₀ number b left = left
 
 loop-holds : tie.Need-loop-holds Inv-loop μ-loop
 loop-holds c = search needs
 
-read-byte-requires : tie.Need-read-byte-requires Inv-loop μ-loop
-read-byte-requires c κs = search needs
-
 returns : tie.Need-returns Inv-loop μ-loop
 returns c = search needs
 
-mul-number : tie.Need-mul-number Inv-loop μ-loop
-mul-number c = search needs
+with-digit-requires : tie.Need-with-digit-requires Inv-loop μ-loop
+with-digit-requires c κs = search needs
 
-cast-number : tie.Need-cast-number Inv-loop μ-loop
-cast-number c = search needs
-
-add-number : tie.Need-add-number Inv-loop μ-loop
-add-number c = search needs
+read-byte-requires : tie.Need-read-byte-requires Inv-loop μ-loop
+read-byte-requires c κs = search needs
 
 sub-left : tie.Need-sub-left Inv-loop μ-loop
 sub-left c = search needs
@@ -47,11 +41,9 @@ read-number-spec =
     Inv-loop
     μ-loop
     loop-holds
-    read-byte-requires
     returns
-    mul-number
-    cast-number
-    add-number
+    with-digit-requires
+    read-byte-requires
     sub-left
     loop-less
     loop-again

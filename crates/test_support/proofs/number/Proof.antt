@@ -19,17 +19,11 @@ loop-holds : tie.Need-loop-holds Inv-loop μ-loop
 unfolding numberOf
 loop-holds c = (search needs, refl)
 
-mul-n : tie.Need-mul-n Inv-loop μ-loop
-mul-n c = search needs
+shared-slice-read-with-digit : tie.Need-shared-slice-read-with-digit Inv-loop μ-loop
+shared-slice-read-with-digit c = search needs
 
-shared-slice-read-n : tie.Need-shared-slice-read-n Inv-loop μ-loop
-shared-slice-read-n c = search needs
-
-cast-n : tie.Need-cast-n Inv-loop μ-loop
-cast-n c = search needs
-
-add-n : tie.Need-add-n Inv-loop μ-loop
-add-n c = search needs
+with-digit-requires : tie.Need-with-digit-requires Inv-loop μ-loop
+with-digit-requires c κs = search needs
 
 add-i : tie.Need-add-i Inv-loop μ-loop
 add-i c = search needs
@@ -38,11 +32,13 @@ loop-less : tie.Need-loop-less Inv-loop μ-loop
 loop-less c = search needs
 
 loop-again : tie.Need-loop-again Inv-loop μ-loop
-loop-again c = let l = c .before .before .loop in
-    (search needs, l .inv .1 ∙ number-next (l .n) (now (c .before .before .before .args .text)) (l .i) (c .before .loop-test .taken))
+loop-again c =
+    let l = c .before .before .before .loop in
+    let text = now (c .before .before .before .before .before .args .text) in
+    (search needs, rw (c .with-digit .ensures) (l .inv .1 ∙ number-next (l .n) text (l .i) (c .before .before .loop-test .taken)))
 
 returns : tie.Need-returns Inv-loop μ-loop
-returns c = sym (c .before .loop .inv .1 ∙ rw (drop-of-length-le (now (c .before .before .args .text)) (c .loop-test .left)))
+returns c = sym (c .before .loop .inv .1 ∙ rw (drop-of-length-le (now (c .before .before .before .args .text)) (c .loop-test .left)))
 
 pub number-spec : {M : Type 1} → statement M
 number-spec =
@@ -51,10 +47,8 @@ number-spec =
     Inv-loop
     μ-loop
     loop-holds
-    mul-n
-    shared-slice-read-n
-    cast-n
-    add-n
+    shared-slice-read-with-digit
+    with-digit-requires
     add-i
     loop-less
     loop-again

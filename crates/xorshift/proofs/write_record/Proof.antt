@@ -7,7 +7,7 @@ use mathlib.Core.List.{_++_}
 use lib.Bits.{bitAnd}
 use lib.ListN.{getD, drop, set, length-take, length-drop}
 use Rattle.base.specs.Lists.{part-back-behind}
-use Rattle.xorshift.specs.Xorshift.{round, cleared, fourBytes, recordFrom}
+use Rattle.xorshift.specs.Xorshift.{round, cleared, fourBytes, nextState, recordFrom}
 use borrow.Author.Needs.{needs}
 use Rattle.xorshift.proofs.write_record.Statement.{statement}
 use Rattle.xorshift.proofs.write_record.Tie as tie
@@ -40,7 +40,10 @@ write-state-requires-2 : tie.Need-write-state-requires-2
 write-state-requires-2 c κs = rw (c .before .before .before .before .write-state .ensures) (simp (length-take, length-drop) (omega arith))
 
 same-length : tie.Need-same-length
-same-length c = c .before .out2 .given .1 ∙ rw (c .before .before .before .before .before .before .before .write-state .ensures) (omega (arith, length-drop 4 (now (c .before .before .before .before .before .before .before .before .before .before .before .before .args .out))))
+same-length c =
+    let stored = c .before .before .before .before .before .before .before in
+    let out = now (stored .before .before .before .before .before .args .out) in
+    c .before .out2 .given .1 ∙ rw (stored .write-state .ensures) (omega (arith, length-drop 4 out))
 
 returns : tie.Need-returns
 unfolding recordFrom
@@ -50,7 +53,7 @@ returns c =
     let a = made .before .before .before .args in
     let first = made .before .round .result in
     let second = made .round2 .result in
-    let e : second ≡ round (round (a .state)) = made .round2 .ensures ∙ ap round (made .before .round .ensures) in
+    let e : second ≡ nextState (a .state) = made .round2 .ensures ∙ ap round (made .before .round .ensures) in
     let w = stored .write-state .last .1 .0 in
     let xs = set w 0 (bitAnd (getD w 0 0) 0x1F) in
     let g : xs ≡ cleared (fourBytes first) ++ drop 4 (now (a .out)) = rw (stored .write-state .ensures) refl in
