@@ -53,7 +53,7 @@ abbrev pub fails : {A : Type 0} → (ℕ → Bool) → List (ℕ × A) → Bool
 fails f [] = true
 fails f (e ∷ r) = pick (f (e .0)) false (fails f r)
 
--- false where the first holds, else the second
+-- where such a choice is true the first test fails and the second holds
 pub first-fails : (b c : Bool) → pick b false c ≡ true → (b ≡ false) × (c ≡ true)
 first-fails true c e = absurd (false≢true e)
 first-fails false c e = (refl, e)

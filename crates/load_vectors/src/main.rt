@@ -13,7 +13,7 @@ const MOST: usize = 4000;
 
 const BYTES: usize = MOST * RECORD_LENGTH;
 
-// The digits of the records, a blank, the digits of the state, and LF.
+// The digits of the records, a blank, the digits of the state, and one more, so that LF is read too.
 const LINE: usize = 2 * BYTES + 10;
 
 type Line = [u8; LINE];
@@ -62,7 +62,7 @@ fn put_state(line: &mut Line, n: usize, state: u32) {
     put_byte(line, at + 7, byte_from(state, 0));
 }
 
-// Fills the first n bytes of a buffer; 255 where it has less.
+// Fills the first n bytes of a buffer; 255 where it has fewer.
 fn fill_front(seed: u32, buffer: &mut [u8], n: usize) -> Filled {
     if buffer.len() < n {
         return Filled::Refused(255);
@@ -154,7 +154,8 @@ fn state_of(answer: Filled) -> u32 {
     }
 }
 
-// Makes one record. Prints the two published states that it should hold, and whether it does not. Answers the state that came back, which should be the second.
+// Makes one record. Prints the two published states that it should hold, and `differ` if the record or the state that came back is another. Answers that
+// state, which should be the second.
 fn compare_record(seed: u32, first: u32, second: u32) -> u32 {
     let mut record = [0u8; RECORD_LENGTH];
     let state = state_of(xorshift::fill(seed, &mut record));

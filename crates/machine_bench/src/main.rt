@@ -19,7 +19,7 @@ const SCHEDULE: usize = PART * RECORD_LENGTH;
 // Where reset starts.
 const START: usize = 0x100;
 
-// A loop that calls a routine, pushes and pops. The routine adds over a table by a pointer, and works on what it has added. Each turn of it writes
+// A loop that calls a routine, pushes and pops. The routine adds over a table by a pointer, and works on what it has added. Each turn of its loop writes
 // P0PND: 02H enables external interrupt 0, 00H leaves it disabled. The service disables it up to the next turn.
 fn mixed_program(image: &mut [u8; IMAGE_LENGTH], enable: u8) {
     put(image, 0, b"\x01\x80");
@@ -138,7 +138,7 @@ fn make_part(seed: u32, records: &mut [u8; SCHEDULE]) -> u32 {
     }
 }
 
-// The records of one part, as the seed gives them.
+// The first 1,000 records that the seed gives.
 fn schedule(seed: u32) -> [u8; SCHEDULE] {
     let mut records = [0u8; SCHEDULE];
     make_part(seed, &mut records);

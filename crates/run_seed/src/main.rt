@@ -29,7 +29,7 @@ struct Progress {
 // What an argument without a number gives.
 const NONE: u64 = GREATEST + 1;
 
-// The number that decimal digits give, if it is not above the greatest.
+// The number that decimal digits give; NONE if there is none or it is above the greatest.
 fn number(text: &[u8]) -> u64 {
     if text.len() == 0 {
         return NONE;
@@ -81,7 +81,7 @@ fn run_records(image: &[u8; IMAGE_LENGTH], p: Progress, records: &mut [u8]) -> P
     }
 }
 
-// Goes on over the next n records, unless the run has ended.
+// Goes on over the next n records, at most PART, unless the run has ended.
 fn run_part(image: &[u8; IMAGE_LENGTH], p: Progress, n: u64) -> Progress {
     if p.stop != 0 {
         return p;

@@ -1,4 +1,4 @@
--- What the arguments of a benchmark program mean.
+-- Numbers of decimal digits, and what the arguments of a benchmark program mean.
 -- Assumes nothing.
 use Prim.Native.Nat.{ℕ, _+_, _*_, _%_, _<_}
 use mathlib.Core.Path.{_≡_}

@@ -1,4 +1,4 @@
-// What the test programs and the benchmarks share: bytes into a slice and out of it, hexadecimal digits, printing, the cases of a vector file, and
+// What the test programs and the benchmarks share: bytes into a slice and out of it, hexadecimal and decimal digits, lines, printing, the cases of a vector file, and
 // the arguments of a benchmark. In a vector file numbers are high byte first, and cases follow one another up to the file's end.
 ghost use Prim.Native.Nat.{_+_, _-_, _*_, _%_, _≤_};
 ghost use mathlib.Core.Path.{_≡_};

@@ -73,7 +73,8 @@ filled-length seed out (refused n) e = ap length (fill-unchanged seed out n e)
 pub length-fillBuffer : (seed : ℕ) (out : List ℕ) → length (fillBuffer seed out) ≡ length out
 length-fillBuffer seed out = filled-length seed out (fillAnswer seed (length out)) refl
 
--- a call that answers a state, and one from that state over the buffer behind: it is not refused, and both leave what one call leaves
+-- a call that answers a state, and one from that state over the buffer behind: the second is not refused and answers what one call over both answers, and
+-- the two leave what that one leaves
 pub record InTwo (seed state : ℕ) (a b : List ℕ) : Type 0 where
   pub end : ℕ
   pub second : fillAnswer state (length b) ≡ value end

@@ -24,7 +24,7 @@ left-fixed (suc w) k x q h e =
     let none = left-fixed w k (x / 2) q (omega (arith, pow-suc 2 w)) (omega (arith, doubled q w, doubled x k, next)) in
     omega arith
 
--- and of any number when it is shifted right
+-- of all numbers only 0 stays as it is when it is shifted right
 right-fixed : (k x : ℕ) → x ≡ x / 2 ^ suc k → x ≡ 0
 right-fixed k zero e = refl
 right-fixed k (suc x) e =
@@ -58,14 +58,17 @@ round-nonzero x h e =
     let below = xor-left-below 13 x h in
     xor-left-nonzero 12 x h (xor-right-nonzero 16 a (xor-left-nonzero 4 (xorRight 17 a) (xor-right-below 17 a below) e))
 
+next-below : (x : ℕ) → x < 2 ^ 32 → nextState x < 2 ^ 32
+next-below x h = round-below (round x) (round-below x h)
+
 pub state-below : (n x : ℕ) → x < 2 ^ 32 → stateAfter n x < 2 ^ 32
 unfolding stateAfter
 state-below zero x h = h
-state-below (suc n) x h = state-below n (nextState x) (round-below (round x) (round-below x h))
+state-below (suc n) x h = state-below n (nextState x) (next-below x h)
 
 pub state-nonzero : (n x : ℕ) → x < 2 ^ 32 → stateAfter n x ≡ 0 → x ≡ 0
 unfolding stateAfter
 state-nonzero zero x h e = e
 state-nonzero (suc n) x h e =
     round-nonzero x h
-    (round-nonzero (round x) (round-below x h) (state-nonzero n (nextState x) (round-below (round x) (round-below x h)) e))
+    (round-nonzero (round x) (round-below x h) (state-nonzero n (nextState x) (next-below x h) e))

@@ -62,7 +62,7 @@ pub no-other-bit : (x : ℕ) → bitAnd (getD (recordFrom x) 0 0) 0xE0 ≡ 0
 unfolding recordFrom
 no-other-bit x = and-assoc (byteOf (round x) 0) 0x1F 0xE0 ∙ and-zero-r (byteOf (round x) 0)
 
--- every byte of a record is one
+-- every cell of a record holds a byte
 cleared-bytes : (l : List ℕ) → Bytes l → Bytes (cleared l)
 cleared-bytes [] p = p
 cleared-bytes (b ∷ r) p = bytes-cons (bitAnd b 0x1F) r (omega (arith, and-le-r b 0x1F)) (λ (k : ℕ). p (suc k))

@@ -1,7 +1,6 @@
 -- `taken`: each return by the test that led there.
 -- Assumes nothing.
 use Rattle.base.specs.Tests.{tests}
-use borrow.Author.Needs.{needs}
 use Rattle.xorshift.proofs.taken.Statement.{statement}
 use Rattle.xorshift.proofs.taken.Tie as tie
 

@@ -53,16 +53,17 @@ loop-again c =
     let turn = c .before .before .before .before .before in
     let l = turn .loop in
     let a = turn .before .before .args in
-    let e : (l .at + recordLength) / recordLength ≡ l .at / recordLength + 1 = omega arith in
-    let n : length (recordsFrom (l .at / recordLength) (a .seed)) ≡ l .at = omega (arith, length-records (l .at / recordLength) (a .seed)) in (
+    let k = l .at / recordLength in
+    let e : (l .at + recordLength) / recordLength ≡ k + 1 = omega arith in
+    let n : length (recordsFrom k (a .seed)) ≡ l .at = omega (arith, length-records k (a .seed)) in (
       omega arith,
       omega arith,
       c .before .out .given .1 ∙ l .inv .2,
-      rw (e, state-more (l .at / recordLength) (a .seed), ← (l .inv .3)) (c .before .before .write-record .ensures .0),
-      rw (e, records-more (l .at / recordLength) (a .seed), c .before .before .write-record .ensures .1, l .inv .3)
+      rw (e, state-more k (a .seed), ← (l .inv .3)) (c .before .before .write-record .ensures .0),
+      rw (e, records-more k (a .seed), c .before .before .write-record .ensures .1, l .inv .3)
           (part-back-behind
-          (recordsFrom (l .at / recordLength) (a .seed))
-          (recordFrom (stateAfter (l .at / recordLength) (a .seed)))
+          (recordsFrom k (a .seed))
+          (recordFrom (stateAfter k (a .seed)))
           (l .out)
           (now (a .out))
           (l .at)
