@@ -90,8 +90,8 @@ in-two seed state a b h e w =
     let m = length b / recordLength in
     let l = length-append a b in
     let q : length (a ++ b) / recordLength ≡ n + m = omega (arith, l, f .whole) in
-    let more : Fits state (length b) =
-    record { seeded = λ (z : state ≡ 0). f .seeded (state-nonzero n seed h (sym s ∙ z)); whole = w } in
+    let nonzero : state ≡ 0 → ⊥ = λ z. f .seeded (state-nonzero n seed h (sym s ∙ z)) in
+    let more : Fits state (length b) = record { seeded = nonzero; whole = w } in
     let both : Fits seed (length (a ++ b)) = record { seeded = f .seeded; whole = omega (arith, l, f .whole) } in
     record {
       end = stateAfter m state;

@@ -14,14 +14,15 @@ xor-zero a b e = omega (arith, xor-add-and a b, and-le-l a b, and-le-r a b)
 doubled : (a k : ℕ) → a * 2 ^ suc k ≡ a * 2 ^ k * 2
 doubled a k = ap (λ (p : ℕ). a * p) (pow-suc 2 k) ∙ sym (mul-assoc a (2 ^ k) 2)
 
+halved : (x k : ℕ) → x ≡ x / 2 * 2 → x * 2 ^ k ≡ x / 2 * 2 ^ suc k
+halved x k even = ap (λ (y : ℕ). y * 2 ^ k) even ∙ (mul-assoc (x / 2) 2 (2 ^ k) ∙ ap (λ (p : ℕ). x / 2 * p) (sym (pow-succ' 2 k)))
+
 -- of w bits only 0 stays as it is when it is shifted left: the lowest bit is 0, and so it goes on with the other bits
 left-fixed : (w k x q : ℕ) → x < 2 ^ w → x + q * 2 ^ w ≡ x * 2 ^ suc k → x ≡ 0
 left-fixed zero k x q h e = omega arith
 left-fixed (suc w) k x q h e =
     let even : x ≡ x / 2 * 2 = omega (arith, doubled q w, doubled x k) in
-    let next : x * 2 ^ k ≡ x / 2 * 2 ^ suc k =
-    ap (λ (y : ℕ). y * 2 ^ k) even ∙ (mul-assoc (x / 2) 2 (2 ^ k) ∙ ap (λ (p : ℕ). x / 2 * p) (sym (pow-succ' 2 k))) in
-    let none = left-fixed w k (x / 2) q (omega (arith, pow-suc 2 w)) (omega (arith, doubled q w, doubled x k, next)) in
+    let none = left-fixed w k (x / 2) q (omega (arith, pow-suc 2 w)) (omega (arith, doubled q w, doubled x k, halved x k even)) in
     omega arith
 
 -- of all numbers only 0 stays as it is when it is shifted right
