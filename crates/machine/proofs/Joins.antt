@@ -13,6 +13,8 @@ use Rattle.semantics.specs.declared.State.{State}
 use Rattle.semantics.specs.declared.Stepped.{Stepped}
 use Rattle.semantics.specs.Step.{actedOf, settled, stepOf}
 use Rattle.semantics.specs.Run.{recordAt, runFrom, ran}
+use Rattle.machine.specs.Count.{stateBehind}
+use Rattle.machine.specs.ReachedLaws.{state-next}
 
 -- a list from i on, element by element
 elements : (n i : ℕ) (l : List ℕ) → length l ≡ i + n → map (λ (k : ℕ). getD l k 0) (from n i) ≡ drop i l
@@ -32,14 +34,22 @@ pub step-right : (image : List ℕ) (s : State) (rec : List ℕ) → length imag
 unfolding stepOf
 step-right image s rec h g = rw (h, g)
 
+-- the bytes of record i
+pub part-length : (i : ℕ) → i * recordLength + recordLength - i * recordLength ≡ recordLength
+part-length i = omega arith
+
 module _ (n i : ℕ) (image schedule : List ℕ) (s : State) (r : Stepped) (size : length image ≡ romLength)
     (count : n ≡ length schedule / recordLength) (h : i < n)
     (e : r ≡ settled s (actedOf image s (take (i * recordLength + recordLength - i * recordLength) (drop (i * recordLength) schedule)))) where
-  this-step : r ≡ stepOf image s (recordAt schedule i)
+  pub this-step : r ≡ stepOf image s (recordAt schedule i)
   this-step =
-      let q : i * recordLength + recordLength - i * recordLength ≡ recordLength = omega arith in
       let w : length (recordAt schedule i) ≡ recordLength = simp (length-take, length-drop) (omega arith) in
-      rw q at e ∙ sym (step-right image s (recordAt schedule i) size w)
+      rw (part-length i) at e ∙ sym (step-right image s (recordAt schedule i) size w)
+
+  -- it leads to the state behind one record more
+  pub comes-to : (start : State) → s ≡ stateBehind i image schedule 0 start → r .state ≡ stateBehind (i + 1) image schedule 0 start
+  comes-to start q =
+      ap (λ (x : Stepped). x .state) this-step ∙ ap (λ (x : State). stepOf image x (recordAt schedule i) .state) q ∙ sym (state-next i image schedule start)
 
   next-record : n - i ≡ suc (n - (i + 1))
   next-record = omega arith

@@ -202,6 +202,18 @@ run-state image schedule s = on (isImageLength (length image) && eqb (length sch
     on true = run-from-state n image schedule 0 s
     on false = refl
 
+-- a run answers the number of its completed steps
+pub steps-completed : (image schedule : List ℕ) (s : State) → runOf image s schedule .steps ≡ completedSteps image s schedule
+unfolding runOf completedSteps
+steps-completed image schedule s = on (isImageLength (length image) && eqb (length schedule % recordLength) 0)
+  where
+    n : ℕ
+    n = length schedule / recordLength
+
+    on : (b : Bool) → (pick b (runFrom n image schedule 0 s) (ran s 0 7)) .steps ≡ pick b (completedOf n image schedule 0 s) 0
+    on true = omega (arith, run-steps n image schedule 0 s)
+    on false = refl
+
 -- a run answers the number of its completed steps, and the start's cycle total with their costs
 pub record Counted (count cost : ℕ) (s : State) (r : Ran) : Type 0 where
   pub steps : r .steps ≡ count
@@ -209,17 +221,17 @@ pub record Counted (count cost : ℕ) (s : State) (r : Ran) : Type 0 where
 
 pub run-counted : (image schedule : List ℕ) (s : State) → s .cycles < 4294967296
     → Counted (completedSteps image s schedule) (totalCost image s schedule) s (runOf image s schedule)
-unfolding runOf completedSteps totalCost
-run-counted image schedule s small = on (isImageLength (length image) && eqb (length schedule % recordLength) 0)
+unfolding runOf totalCost
+run-counted image schedule s small =
+    record { steps = steps-completed image schedule s; cycles = on (isImageLength (length image) && eqb (length schedule % recordLength) 0) }
   where
     n : ℕ
     n = length schedule / recordLength
 
     on : (b : Bool)
-        → Counted (pick b (completedOf n image schedule 0 s) 0) (pick b (costsOf n image schedule 0 s) 0) s
-        (pick b (runFrom n image schedule 0 s) (ran s 0 7))
-    on true = record { steps = omega (arith, run-steps n image schedule 0 s); cycles = run-cycles n image schedule 0 s small }
-    on false = record { steps = refl; cycles = same-total s small }
+        → (pick b (runFrom n image schedule 0 s) (ran s 0 7)) .state .cycles ≡ (s .cycles + pick b (costsOf n image schedule 0 s) 0) % 4294967296
+    on true = run-cycles n image schedule 0 s small
+    on false = same-total s small
 
 -- the same of what is equal to the run
 pub counts-too : (image schedule : List ℕ) (s : State) (r : Ran) → s .cycles < 4294967296 → r ≡ runOf image s schedule

@@ -1,1 +1,3 @@
 pub mod Count
+pub mod Reached
+pub mod ReachedLaws

@@ -6,7 +6,10 @@ ghost use Rattle.semantics.specs.Reset.{resetState, IsReset};
 ghost use Rattle.base.specs.Lengths.{romLength, recordLength};
 ghost use Rattle.semantics.specs.Step.{stepOf};
 ghost use Rattle.semantics.specs.Run.{runFrom, runOf};
+ghost use Rattle.base.specs.Choice.{pick};
+ghost use Rattle.coverage.specs.Map.{withMark};
 ghost use Rattle.machine.specs.Count.{completedSteps, totalCost, Counted};
+ghost use Rattle.machine.specs.Reached.{Marks, reachedIn, reached, coveredRun, coveredMap};
 use base::RECORD_LENGTH;
 use base::RomAddr;
 use chip::Inputs;
@@ -63,10 +66,20 @@ pub fn step(image: &[u8], state: State, rec: &[u8]) -> Stepped
     }
 }
 
-// The records of a schedule in turn, on an image.
-fn run_records(image: &[u8], state: State, schedule: &[u8]) -> Ran
+// Marks where an instruction began, if one was completed.
+fn mark_retired(map: &mut [u64], pc: RomAddr, retired: bool)
+    ensures { λ _. ⌜ now (map .exit) ≡ pick retired (withMark (now (map .entry)) (pc .0)) (now (map .entry)) ⌝ }
+{
+    if retired {
+        coverage::mark(map, pc);
+    }
+}
+
+// The records of a schedule in turn, on an image. The instructions that they complete are marked in the words that the map has.
+fn run_records(image: &[u8], state: State, schedule: &[u8], map: &mut [u64]) -> Ran
     requires { ⌜ length (now image) ≡ romLength ⌝ }
-    ensures { λ r. ⌜ r ≡ runFrom (length (now (schedule .entry)) / recordLength) (now (image .entry)) (now (schedule .entry)) 0 state ⌝ }
+    ensures run { λ r. ⌜ r ≡ runFrom (length (now (schedule .entry)) / recordLength) (now (image .entry)) (now (schedule .entry)) 0 state ⌝ }
+    ensures map { λ r. ⌜ Marks (now (map .entry)) (now (map .exit)) (reachedIn (r .steps) (now (image .entry)) state (now (schedule .entry))) ⌝ }
 {
     let count = schedule.len() / RECORD_LENGTH;
     let mut regs = state.regs;
@@ -76,6 +89,7 @@ fn run_records(image: &[u8], state: State, schedule: &[u8]) -> Ran
         let at = i * RECORD_LENGTH;
         let end = at + RECORD_LENGTH;
         let rec = record_bytes(&schedule[at..end]);
+        let pc = core.pc;
         let r = step::step_in_place(image, core, &mut regs, &rec);
         core = r.core;
         if r.stop != 0 {
@@ -85,6 +99,7 @@ fn run_records(image: &[u8], state: State, schedule: &[u8]) -> Ran
                 stop: r.stop,
             };
         }
+        mark_retired(map, pc, r.retired);
         i += 1;
     }
     Ran {
@@ -94,11 +109,10 @@ fn run_records(image: &[u8], state: State, schedule: &[u8]) -> Ran
     }
 }
 
-// A run over a schedule of whole records on an image: the state after its completed steps, how many they are, and the number
-// that ended it, or 0.
-pub fn run(image: &[u8], state: State, schedule: &[u8]) -> Ran
+// A run that marks; 7 for an image of another length, and for a schedule that is not whole records.
+fn run_marking(image: &[u8], state: State, schedule: &[u8], map: &mut [u64]) -> Ran
     ensures run { λ r. ⌜ r ≡ runOf (now (image .entry)) state (now (schedule .entry)) ⌝ }
-    ensures counted { λ r. ⌜ Counted (completedSteps (now (image .entry)) state (now (schedule .entry))) (totalCost (now (image .entry)) state (now (schedule .entry))) state r ⌝ }
+    ensures map { λ r. ⌜ Marks (now (map .entry)) (now (map .exit)) (reached (now (image .entry)) state (now (schedule .entry))) ⌝ }
 {
     if !base::is_image_length(image.len()) {
         return Ran {
@@ -114,5 +128,31 @@ pub fn run(image: &[u8], state: State, schedule: &[u8]) -> Ran
             stop: 7,
         };
     }
-    run_records(image, state, schedule)
+    run_records(image, state, schedule, map)
+}
+
+// A run over a schedule of whole records on an image: the state after its completed steps, how many they are, and the number
+// that ended it, or 0.
+pub fn run(image: &[u8], state: State, schedule: &[u8]) -> Ran
+    ensures run { λ r. ⌜ r ≡ runOf (now (image .entry)) state (now (schedule .entry)) ⌝ }
+    ensures counted { λ r. ⌜ Counted (completedSteps (now (image .entry)) state (now (schedule .entry))) (totalCost (now (image .entry)) state (now (schedule .entry))) state r ⌝ }
+{
+    let mut none = [0u64; 1];
+    run_marking(image, state, schedule, &mut none[..0])
+}
+
+// The same run with a lent map (`coverage::WORDS`), which then has its old marks and those of the instructions that the run completed, where they
+// began. A map of another length is refused by 7.
+pub fn run_covered(image: &[u8], state: State, schedule: &[u8], map: &mut [u64]) -> Ran
+    ensures run { λ r. ⌜ r ≡ coveredRun (now (image .entry)) state (now (schedule .entry)) (length (now (map .entry))) ⌝ }
+    ensures map { λ _. ⌜ now (map .exit) ≡ coveredMap (now (image .entry)) state (now (schedule .entry)) (now (map .entry)) ⌝ }
+{
+    if map.len() != coverage::WORDS {
+        return Ran {
+            state: state,
+            steps: 0,
+            stop: 7,
+        };
+    }
+    run_marking(image, state, schedule, map)
 }

@@ -1,0 +1,4 @@
+pub mod BitLaws
+pub mod Map
+pub mod MapLaws
+pub mod TrailingZeros
