@@ -4,7 +4,7 @@
 use Prim.Native.Nat.{ℕ, zero, suc, _+_, _*_, _/_, _%_, _^_}
 use mathlib.Core.Bool.{Bool}
 use mathlib.Core.List.{List, map}
-use lib.ListN.{length, getD, set}
+use lib.ListN.{length, getD, set, replicate}
 use lib.Bits.{bitOr}
 use lib.Dec.{eqb, ltb}
 use Rattle.base.specs.Choice.{pick, from, count}
@@ -41,6 +41,14 @@ bitsFrom (suc n) f a = pick (f a) 1 0 + bitsFrom n f (a + 1) * 2
 -- the map that marks the addresses of ROM that pass a test, and no others
 unfoldable pub mapOf : (ℕ → Bool) → List ℕ
 mapOf f = map (λ w. bitsFrom 64 f (64 * w)) (from mapWords 0)
+
+-- the map that marks nothing
+unfoldable pub emptyMap : List ℕ
+emptyMap = replicate mapWords 0
+
+-- two maps joined, word by word
+unfoldable pub joined : List ℕ → List ℕ → List ℕ
+joined m n = map (λ w. bitOr (getD m w 0) (getD n w 0)) (from mapWords 0)
 
 -- "the number of distinct marked addresses"
 unfoldable pub markedCount : List ℕ → ℕ

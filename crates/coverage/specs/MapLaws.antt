@@ -6,18 +6,18 @@ use mathlib.Core.Logic.{_≢_, _⊎_, inl, inr, ⊎-elim}
 use mathlib.Core.Bool.{Bool, true, false, _&&_, _||_, or-false, and-false}
 use mathlib.Core.List.{List, map}
 use native.Mathlib.Omega.{arith}
-use native.Mathlib.Nat.{add-zero, zero-add, pow-suc}
-use lib.ListN.{length, getD, set}
+use native.Mathlib.Nat.{add-zero, zero-add, pow-suc, zero-div}
+use lib.ListN.{length, getD, set, getD-replicate, List·getD-eq-default}
 use lib.Seq.{getD-set-same, getD-set-other, ext-getD}
-use lib.Bits.{bitOr}
+use lib.Bits.{bitOr, or-lt}
 use lib.Count.{ones}
 use borrow.Author.Tests.{eqb-true}
 use lib.Dec.{eqb, ltb→lt}
 use Rattle.base.specs.Choice.{pick, from, count}
 use Rattle.base.specs.Lengths.{romLength}
 use Rattle.base.specs.Table.{table-at}
-use Rattle.base.specs.Formula.{eqb-no, eqb-yes, of-true, case-bool, same?}
-use Rattle.coverage.specs.Map.{mapWords, bitOf, marked, inside, withMark, bitsFrom, mapOf}
+use Rattle.base.specs.Formula.{eqb-no, eqb-yes, of-true, case-bool, same?, le?}
+use Rattle.coverage.specs.Map.{mapWords, bitOf, marked, inside, withMark, bitsFrom, mapOf, emptyMap, joined}
 use Rattle.coverage.specs.BitLaws.{bit-half, bit-lowest, bit-or, bit-single, same-bits, count-same, count-parts, ones-counted}
 
 -- a digit below a number
@@ -136,3 +136,47 @@ word-counted m w small =
     (ap (λ (k : ℕ). count (marked m) (from (64 * w) 0) + k)
     (ones-counted 64 (getD m w 0) (small w)
     ∙ count-same (bitOf (getD m w 0)) (marked m) 64 0 (0 + 64 * w) (λ k l. rw (zero-add k, zero-add (64 * w)) (sym (marked-at m w k l)))))
+
+-- a map that is made word by word
+words-made : (f : ℕ → ℕ) → ((w : ℕ) → f w < 2 ^ 64) → Words (map f (from mapWords 0))
+words-made f h w =
+    ⊎-elim (λ (l : mapWords ≤ w). rw (List·getD-eq-default (map f (from mapWords 0)) 0 {n = w} l) (omega arith))
+    (λ (l : w < mapWords). rw (table-at f 0 mapWords (map f (from mapWords 0)) refl w l) (h w)) (le? mapWords w)
+
+pub words-map-of : (f : ℕ → Bool) → Words (mapOf f)
+unfolding mapOf
+words-map-of f = words-made (λ w. bitsFrom 64 f (64 * w)) (λ w. bits-below 64 f (64 * w))
+
+pub words-joined : (m n : List ℕ) → Words m → Words n → Words (joined m n)
+unfolding joined
+words-joined m n h g = words-made (λ w. bitOr (getD m w 0) (getD n w 0)) (λ w. or-lt 64 (getD m w 0) (getD n w 0) (h w) (g w))
+
+pub length-joined : (m n : List ℕ) → length (joined m n) ≡ mapWords
+unfolding joined
+length-joined m n = refl
+
+-- maps with the same marks are equal
+pub same-marks : (m n : List ℕ) → length m ≡ mapWords → length n ≡ mapWords → Words m → Words n
+    → ((a : ℕ) → a < romLength → marked m a ≡ marked n a) → m ≡ n
+same-marks m n size size′ small small′ h = map-of-marks m (marked n) size small h ∙ sym (map-of-marks n (marked n) size′ small′ (λ a l. refl))
+
+-- tests that agree give the same map
+pub same-map-of : (f g : ℕ → Bool) → ((a : ℕ) → a < romLength → f a ≡ g a) → mapOf f ≡ mapOf g
+same-map-of f g h = map-of-marks (mapOf f) g (length-map-of f) (words-map-of f) (λ a l. marked-map-of f a l ∙ h a l)
+
+-- a map of 64 words marks nothing past ROM
+pub marked-past : (m : List ℕ) (a : ℕ) → length m ≡ mapWords → romLength ≤ a → marked m a ≡ false
+unfolding marked
+marked-past m a size h = rw (List·getD-eq-default m 0 {n = a / 64} (rw size (omega (arith, h))), zero-div (2 ^ (a % 64)))
+
+-- nor does the empty map
+pub marked-empty : (a : ℕ) → a < romLength → marked emptyMap a ≡ false
+unfolding marked emptyMap
+marked-empty a h = rw (getD-replicate {A = ℕ} mapWords (a / 64) 0 0 (omega (arith, h)), zero-div (2 ^ (a % 64)))
+
+-- two maps joined mark what each marks
+pub marked-joined : (m n : List ℕ) (a : ℕ) → a < romLength → marked (joined m n) a ≡ (marked m a || marked n a)
+unfolding marked joined
+marked-joined m n a h =
+    rw (table-at (λ w. bitOr (getD m w 0) (getD n w 0)) 0 mapWords (joined m n) refl (a / 64) (omega arith))
+    (bit-or (getD m (a / 64) 0) (getD n (a / 64) 0) (a % 64))

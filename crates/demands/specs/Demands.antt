@@ -4,22 +4,24 @@
 --   `new_reader` begun; `check_line` readLine; `read_line` readLine, lineBuffer; `read_text` textAnswer, textBuffer;
 --   `start` started; `feed` feedStream, feedBuffer; `finish` finishAnswer; `write_image` writeAnswer, writeBuffer;
 --   `upper_line` upperAnswer, upperLine; `fill` fillAnswer, fillBuffer;
---   `reset` resetState; `step` stepOf; `run` runOf; `check` verdictOf;
+--   `reset` resetState; `step` stepOf; `run` runOf; `run_covered` coveredRun, coveredMap; `mark` withMark; `count` markedCount;
+--   `check` verdictOf; `lowest_unmarked` lowestOf;
 --   `write_report` reportAnswer, reportBuffer; `judge_texts` printedAnswer, printedBuffer.
 -- `judge_files` promises what `judge_texts` does of some two texts: no contract can say what a file holds.
 -- A call reaches no memory but what it is lent: the language has no other.
 -- Assumes nothing.
-use Prim.Native.Nat.{ℕ, _+_, _-_, _/_, _≤_, _<_}
+use Prim.Native.Nat.{ℕ, _+_, _-_, _/_, _%_, _≤_, _<_}
 use mathlib.Core.Path.{_≡_}
 use mathlib.Core.Logic.{_⊎_}
+use mathlib.Core.Bool.{false, _&&_}
 use mathlib.Core.List.{List, _++_}
 use lib.ListN.{length, getD, take, drop}
-use lib.Dec.{ltb, leb}
+use lib.Dec.{eqb, ltb, leb}
 use borrow.Author.Tests.{lt-ltb}
 use Rattle.base.specs.declared.RomAddr.{RomAddr}
 use Rattle.base.specs.Cells.{Bytes}
 use Rattle.base.specs.Choice.{pick}
-use Rattle.base.specs.Lengths.{romLength}
+use Rattle.base.specs.Lengths.{romLength, recordLength, isImageLength}
 use Rattle.base.specs.Outcome.{Outcome}
 use Rattle.base.specs.Outcome.Outcome.{value, refused}
 use Rattle.isa.specs.declared.FlagSet.{FlagSet}
@@ -38,8 +40,12 @@ use Rattle.roundtrip.specs.Copy.{copyAnswer, copyInto}
 use Rattle.roundtrip.specs.Refusals.{copy-number, copy-unchanged, length-copyInto}
 use Rattle.semantics.specs.declared.State.{State}
 use Rattle.semantics.specs.Step.{stepOf}
-use Rattle.semantics.specs.Run.{runOf}
+use Rattle.semantics.specs.Run.{ran, runOf}
 use Rattle.semantics.specs.Refusals.{StepNumber, Stops, step-stops, run-number}
+use Rattle.coverage.specs.Map.{isMapLength}
+use Rattle.coverage.specs.MapLaws.{Words}
+use Rattle.machine.specs.Reached.{coveredRun, coveredMap}
+use Rattle.machine.specs.CoveredLaws.{covered-number, covered-length, covered-refused}
 use Rattle.machine.specs.Count.{completedSteps, stateBehind, totalCost, Counted, run-state, run-counted}
 use Rattle.hex_line.specs.declared.Reader.{Reader}
 use Rattle.hex_line.specs.Line.{readLine, lineBuffer}
@@ -149,6 +155,18 @@ run-refuses image s schedule = run-number image schedule s
 pub run-leaves : (image schedule : List ℕ) (s : State)
     → runOf image s schedule .state ≡ stateBehind (completedSteps image s schedule) image schedule 0 s
 run-leaves = run-state
+
+-- a run with a coverage map: the map keeps its length; where a length is wrong, it is refused by 7 and the map is as it was
+pub covered-refuses : (image : List ℕ) (s : State) (schedule m : List ℕ) → StepNumber (coveredRun image s schedule (length m) .stop)
+covered-refuses = covered-number
+
+pub covered-keeps-length : (image : List ℕ) (s : State) (schedule m : List ℕ) → length (coveredMap image s schedule m) ≡ length m
+covered-keeps-length = covered-length
+
+pub covered-lends : (image : List ℕ) (s : State) (schedule m : List ℕ) → Words m
+    → (isMapLength (length m) && (isImageLength (length image) && eqb (length schedule % recordLength) 0)) ≡ false
+    → (coveredRun image s schedule (length m) ≡ ran s 0 7) × (coveredMap image s schedule m ≡ m)
+covered-lends = covered-refused
 
 pub check-refuses : (image cert : List ℕ) (n : ℕ) (a : RomAddr) → verdictOf image cert ≡ Refused n a → CheckNumber n
 check-refuses = verdict-number

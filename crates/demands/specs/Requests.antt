@@ -2,17 +2,17 @@
 -- Assumes nothing.
 use Prim.Native.Nat.{ℕ, _+_, _-_, _/_, _%_, _^_, _≤_, _<_}
 use mathlib.Core.Path.{_≡_}
-use mathlib.Core.Bool.{true, false}
+use mathlib.Core.Bool.{true, false, _||_}
 use mathlib.Core.Logic.{_⊎_}
 use mathlib.Core.List.{List, [], _∷_, _++_}
 use native.Mathlib.Omega.{arith}
 use lib.Bits.{bitAnd}
 use lib.ListN.{length, getD}
 use Rattle.base.specs.declared.RomAddr.{RomAddr}
-use Rattle.base.specs.Addresses.{flagsCell}
+use Rattle.base.specs.Addresses.{flagsCell, romAddr}
 use Rattle.base.specs.Cells.{Bytes}
-use Rattle.base.specs.Formula.{Holds}
-use Rattle.base.specs.Lengths.{recordLength}
+use Rattle.base.specs.Formula.{Holds, eqb-yes}
+use Rattle.base.specs.Lengths.{romLength, certificateLength, recordLength}
 use Rattle.base.specs.Outcome.Outcome.{value, refused}
 use Rattle.isa.specs.declared.Flag.{Flag}
 use Rattle.isa.specs.declared.FlagSet.{FlagSet}
@@ -31,9 +31,14 @@ use Rattle.chip.specs.Registers.{storeOf}
 use Rattle.semantics.specs.Operands.{withFlags}
 use Rattle.semantics.specs.declared.State.{State}
 use Rattle.semantics.specs.Step.{requested, entryDue, behind, stepOf}
-use Rattle.semantics.specs.Run.{recordAt}
+use Rattle.semantics.specs.Run.{ran, recordAt, runOf}
+use Rattle.coverage.specs.Map.{mapWords, marked, emptyMap, joined}
+use Rattle.coverage.specs.MapLaws.{Words, same-marks, marked-joined, marked-past}
+use Rattle.machine.specs.Reached.{coveredRun, coveredMap}
+use Rattle.machine.specs.CoveredLaws.{Reaches, mark-stays, completed-marked, no-other-mark, covered-joins}
+use Rattle.machine.specs.AppendLaws.{run-in-turn, run-stopped, covered-in-turn}
 use Rattle.certificate.specs.declared.Flow.the-variants.{Step, Call}
-use Rattle.certificate.specs.Layout.{Certificate}
+use Rattle.certificate.specs.Layout.{Certificate, certificateOf}
 use Rattle.safety.specs.Rules.{noCell, Edge, edge26, rule26}
 use Rattle.safety.specs.Verdicts.{summaryAt}
 use Rattle.safety.specs.Statement.{Schedule}
@@ -41,6 +46,9 @@ use Rattle.flag_names.specs.Stores.{storesFlags}
 use Rattle.flag_names.specs.Kept.{flagsIn, unnamed-kept, iret-named, iret-loads}
 use Rattle.flag_names.specs.Witnesses.{ChangedBy, named-changed}
 use Rattle.flag_names.specs.Compares.{EdgeFollows, CallFollows, compare-survives, compare-over-call, none-behind-call}
+use Rattle.uncovered.specs.declared.Lowest.the-variants.{At, AllMarked, Refused}
+use Rattle.uncovered.specs.Lowest.{lowestOf, LowestStart}
+use Rattle.uncovered.specs.LowestLaws.{lowest-at, at-lowest, all-marked, marked-all, lowest-refused, refused-length}
 use Rattle.hex_line.specs.declared.Fields.{Fields}
 use Rattle.hex_line.specs.declared.Reader.{Reader}
 use Rattle.hex_line.specs.Record.{sumOf, countOf, parseBody, bodyLength}
@@ -72,6 +80,84 @@ pub line-sum : (line : List ℕ) (f : Fields) → parseBody line ≡ value f →
 line-sum = sums.line-sum
 
 -- every line kept its answer: this request left `readLine` and `lineBuffer`, which the contracts of `check_line` and `read_line` name, as they were
+
+-- Request 06. Which code has the bench reached? Testers want a map beside a run: one bit per ROM byte in 64 words of 64 bits, ascending from the first
+-- word's lowest bit, set where an instruction began, and a summary that counts the set bits. The map passed in may hold earlier runs. After a run,
+-- stopped or not, it has its old bits and those of the instructions completed in this run, no others; entries, waiting steps and stopped steps set none.
+-- The summary equals the number of distinct marked addresses, and the lowest unmarked instruction start of a given certificate is named, or none --
+
+-- the run with a map is `machine::run_covered`: it answers `coveredRun` and leaves `coveredMap`. With a map of 64 words it answers as `run`
+pub covered-as-run : (image : List ℕ) (s : State) (schedule m : List ℕ) → length m ≡ mapWords → coveredRun image s schedule (length m) ≡ runOf image s schedule
+unfolding coveredRun
+covered-as-run image s schedule m size = rw (eqb-yes size)
+
+-- `marked m a` is the bit of address a. The old bits stay: a map never loses one
+pub old-bits-stay : (image : List ℕ) (s : State) (schedule m : List ℕ) → length m ≡ mapWords → (a : ℕ)
+    → marked m a ≡ true → marked (coveredMap image s schedule m) a ≡ true
+old-bits-stay = mark-stays
+
+-- the instructions completed in this run: `Reaches` has a step below the number of completed steps that completes an instruction (`Completes`: the machine
+-- runs, no entry is due, the step is not refused) and begins at the address
+pub completed-set : (image : List ℕ) (s : State) (schedule m : List ℕ) → length m ≡ mapWords → (a : ℕ)
+    → Reaches image s schedule a → marked (coveredMap image s schedule m) a ≡ true
+completed-set = completed-marked
+
+-- no others
+pub no-others : (image : List ℕ) (s : State) (schedule m : List ℕ) → length m ≡ mapWords → (a : ℕ)
+    → marked (coveredMap image s schedule m) a ≡ true → (marked m a ≡ true) ⊎ Reaches image s schedule a
+no-others = no-other-mark
+
+-- so the map's contents are given: maps of 64 words of 64 bits with the same marks are equal
+pub marks-give-the-map : (m n : List ℕ) → length m ≡ mapWords → length n ≡ mapWords → Words m → Words n
+    → ((a : ℕ) → a < romLength → marked m a ≡ marked n a) → m ≡ n
+marks-give-the-map = same-marks
+
+-- two runs with one map, of any images and from any states, join what each marks in an empty map
+pub maps-join : (image image′ : List ℕ) (s s′ : State) (a b m : List ℕ) → length m ≡ mapWords → Words m
+    → coveredMap image′ s′ b (coveredMap image s a m) ≡ joined (joined m (coveredMap image s a emptyMap)) (coveredMap image′ s′ b emptyMap)
+maps-join = covered-joins
+
+pub joined-marks : (m n : List ℕ) (a : ℕ) → a < romLength → marked (joined m n) a ≡ (marked m a || marked n a)
+joined-marks = marked-joined
+
+-- running a and then b, if a is not stopped, answers and marks as running a ++ b; if it is, a ++ b stops there
+pub in-turn : (image : List ℕ) (s : State) (a b : List ℕ) → length a % recordLength ≡ 0 → length b % recordLength ≡ 0 → runOf image s a .stop ≡ 0
+    → let first = runOf image s a in
+    let second = runOf image (first .state) b in
+    (runOf image s (a ++ b) ≡ ran (second .state) (first .steps + second .steps) (second .stop))
+    × ((m : List ℕ) → coveredMap image s (a ++ b) m ≡ coveredMap image (first .state) b (coveredMap image s a m))
+in-turn image s a b wa wb z = (run-in-turn image s a b wa wb z, covered-in-turn image s a b wa wb z)
+
+pub stopped-first : (image : List ℕ) (s : State) (a b : List ℕ) → length a % recordLength ≡ 0 → length b % recordLength ≡ 0
+    → (runOf image s a .stop ≡ 0 → ⊥) → runOf image s (a ++ b) ≡ runOf image s a
+stopped-first = run-stopped
+
+-- the summary is two calls. `coverage::count` answers `markedCount`: how many of the 4096 addresses of ROM are marked. No other address is
+pub none-past-rom : (m : List ℕ) (a : ℕ) → length m ≡ mapWords → romLength ≤ a → marked m a ≡ false
+none-past-rom = marked-past
+
+-- `uncovered::lowest_unmarked` answers `lowestOf`: the address that it names is a start (its entry's routine is not 0) and unmarked, and every lower start
+-- is marked (`LowestStart`); and that address is named
+pub named-is-lowest : (cert m : List ℕ) (a : RomAddr) → lowestOf cert m ≡ At a → LowestStart (certificateOf cert) m (a .0)
+named-is-lowest = lowest-at
+
+pub lowest-is-named : (cert m : List ℕ) (a : ℕ) → length cert ≡ certificateLength → LowestStart (certificateOf cert) m a → lowestOf cert m ≡ At (romAddr a)
+lowest-is-named = at-lowest
+
+-- none is named exactly where every start is marked
+pub none-named : (cert m : List ℕ) → lowestOf cert m ≡ AllMarked → (a : ℕ) → (certificateOf cert .routine a ≡ 0 → ⊥) → marked m a ≡ true
+none-named = all-marked
+
+pub none-to-name : (cert m : List ℕ) → length cert ≡ certificateLength → ((a : ℕ) → (certificateOf cert .routine a ≡ 0 → ⊥) → marked m a ≡ true)
+    → lowestOf cert m ≡ AllMarked
+none-to-name = marked-all
+
+-- 7 exactly for a certificate of another length
+pub lowest-refuses : (cert m : List ℕ) (n : ℕ) → lowestOf cert m ≡ Refused n → (n ≡ 7) × (length cert ≡ certificateLength → ⊥)
+lowest-refuses = lowest-refused
+
+pub other-length-refused : (cert m : List ℕ) → (length cert ≡ certificateLength → ⊥) → lowestOf cert m ≡ Refused 7
+other-length-refused = refused-length
 
 -- Request 07. Show which flags an instruction touches. The listing we print for reviewers should name the flags among C, Z, S and V that an instruction
 -- may change. The decoder's answer carries them from now on, and machine and checker use this answer, however they do it now; the encoder ignores it.

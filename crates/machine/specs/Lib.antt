@@ -1,3 +1,6 @@
+pub mod AppendLaws
 pub mod Count
+pub mod CoveredLaws
 pub mod Reached
 pub mod ReachedLaws
+pub mod Retired

@@ -1,0 +1,92 @@
+// Runs with a coverage map, and summaries, to be timed: `cover_bench WHAT COUNT SEED`. Rows 1 to 3 are those of `machine_bench` with a map, COUNT thousands of
+// records; row 4 is COUNT summaries. A program of its own, since `run` takes other instructions in a program that also has `run_covered`.
+use base::CERTIFICATE_LENGTH;
+use base::IMAGE_LENGTH;
+use bench_programs::SCHEDULE;
+use bench_programs::argument;
+use bench_programs::program;
+use bench_programs::schedule;
+use bench_programs::tell;
+use coverage::Map;
+use coverage::WORDS;
+use semantics::State;
+use test_support::print;
+use test_support::print_number;
+use uncovered::Lowest;
+
+// The program from reset for `parts` parts, with one map.
+fn cover_parts(image: &[u8; IMAGE_LENGTH], records: &[u8; SCHEDULE], map: &mut Map, parts: u64) -> State {
+    let mut state = machine::reset();
+    let mut left = parts;
+    while left > 0 {
+        let r = machine::run_covered(image, state, records, map);
+        state = r.state;
+        left -= 1;
+    }
+    state
+}
+
+// The program of a row, and how many addresses it has marked.
+fn cover(what: u64, count: u64, seed: u32) {
+    let mut map: Map = [0; WORDS];
+    tell(what, cover_parts(&program(what), &schedule(seed), &mut map, count));
+    print_number(coverage::count(&map) as u64);
+    print(b" marked\n");
+}
+
+// The address of an answer, 0 where it has none.
+fn address_of(lowest: Lowest) -> u16 {
+    match lowest {
+        Lowest::At(a) => a.0,
+        _ => 0,
+    }
+}
+
+// The marks and the lowest unmarked start, added up.
+fn summary(cert: &[u8], map: &Map) -> u64 {
+    coverage::count(map) as u64 + address_of(uncovered::lowest_unmarked(cert, map)) as u64
+}
+
+// Summaries of a certificate whose every address is a start, the highest alone unmarked.
+fn summaries(count: u64) -> u64 {
+    let cert = [1u8; CERTIFICATE_LENGTH];
+    let mut map: Map = [u64::MAX; WORDS];
+    map[WORDS - 1] = u64::MAX / 2;
+    let mut sum = 0;
+    let mut left = count;
+    while left > 0 {
+        sum = std::num::wrapping_add_u64(sum, summary(&cert, &map));
+        left -= 1;
+    }
+    sum
+}
+
+fn cover_rows(count: u64, seed: u32) {
+    let mut what = 1;
+    while what < 4 {
+        cover(what, count, seed);
+        what += 1;
+    }
+}
+
+fn tell_summaries(count: u64) {
+    print_number(summaries(count));
+    print(b"\n");
+}
+
+fn main() {
+    let what = argument(1);
+    let count = argument(2);
+    let seed = bench_programs::seed_argument(3);
+    if seed == 0 {
+        return;
+    }
+    match what {
+        0 => cover_rows(count, seed),
+        4 => {}
+        _ => cover(what, count, seed),
+    }
+    if (what == 0) | (what == 4) {
+        tell_summaries(count);
+    }
+}

@@ -1,0 +1,85 @@
+// States and configurations of the machine as the vector files give them.
+use base::RomAddr;
+use base::byte_at;
+use semantics::Mode;
+use semantics::State;
+use test_support::long_at;
+use test_support::put;
+use test_support::word_at;
+
+// Where the fields of a state begin.
+const PC: usize = 0;
+
+const MODE: usize = 2;
+
+const CYCLES: usize = 3;
+
+const DIVIDER: usize = 7;
+
+const REGISTERS: usize = 9;
+
+pub const STATE_LENGTH: usize = REGISTERS + 256;
+
+// Where the fields of a configuration begin.
+const PROFILE: usize = 0;
+
+const ENTRY_COST: usize = 1;
+
+pub const CONFIGURATION_LENGTH: usize = 2;
+
+fn mode_of(n: u8) -> Mode {
+    match n {
+        0 => Mode::Running,
+        1 => Mode::Idle,
+        _ => Mode::Stopped,
+    }
+}
+
+fn mode_number(mode: Mode) -> u8 {
+    match mode {
+        Mode::Running => 0,
+        Mode::Idle => 1,
+        Mode::Stopped => 2,
+    }
+}
+
+// The registers of a state that is given as bytes.
+fn registers_of(bytes: &[u8]) -> [u8; 256] {
+    let mut regs = [0u8; 256];
+    if REGISTERS <= bytes.len() {
+        put(&mut regs, 0, &bytes[REGISTERS..]);
+    }
+    regs
+}
+
+// The state that is given as bytes.
+pub fn state_of(bytes: &[u8]) -> State {
+    let regs = registers_of(bytes);
+    State {
+        regs: regs,
+        pc: RomAddr(word_at(bytes, PC)),
+        mode: mode_of(byte_at(bytes, MODE)),
+        cycles: long_at(bytes, CYCLES),
+    }
+}
+
+// Whether a state is the one that is given as bytes.
+pub fn same_state(state: State, bytes: &[u8]) -> bool {
+    let pc = state.pc;
+    let mode = state.mode;
+    let regs = state.regs;
+    (pc.0 == word_at(bytes, PC))
+        & (mode_number(mode) == byte_at(bytes, MODE))
+        & (state.cycles == long_at(bytes, CYCLES))
+        & check::same(&regs, &registers_of(bytes))
+}
+
+// Whether the machine has all of a state that is given as bytes: it has no divider yet.
+pub fn is_supported_state(bytes: &[u8]) -> bool {
+    word_at(bytes, DIVIDER) == 0
+}
+
+// Whether the machine has a configuration that is given as bytes: the first profile and no entry cost yet.
+pub fn is_supported_configuration(bytes: &[u8]) -> bool {
+    (byte_at(bytes, PROFILE) == 0) & (byte_at(bytes, ENTRY_COST) == 0)
+}
