@@ -15,7 +15,12 @@ use test_support::print_number;
 use uncovered::Lowest;
 
 // The program from reset for `parts` parts, with one map.
-fn cover_parts(image: &[u8; IMAGE_LENGTH], records: &[u8; SCHEDULE], map: &mut Map, parts: u64) -> State {
+fn cover_parts(
+    image: &[u8; IMAGE_LENGTH],
+    records: &[u8; SCHEDULE],
+    map: &mut Map,
+    parts: u64,
+) -> State {
     let mut state = machine::reset();
     let mut left = parts;
     while left > 0 {
@@ -29,7 +34,10 @@ fn cover_parts(image: &[u8; IMAGE_LENGTH], records: &[u8; SCHEDULE], map: &mut M
 // The program of a row, and how many addresses it has marked.
 fn cover(what: u64, count: u64, seed: u32) {
     let mut map: Map = [0; WORDS];
-    tell(what, cover_parts(&program(what), &schedule(seed), &mut map, count));
+    tell(
+        what,
+        cover_parts(&program(what), &schedule(seed), &mut map, count),
+    );
     print_number(coverage::count(&map) as u64);
     print(b" marked\n");
 }

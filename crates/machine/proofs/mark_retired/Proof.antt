@@ -1,5 +1,4 @@
 -- An instruction that was completed is marked; else the map is as it was.
-use borrow.Author.Tests.{eqb-true}
 use borrow.Author.Needs.{needs}
 use Rattle.machine.proofs.mark_retired.Statement.{statement}
 use Rattle.machine.proofs.mark_retired.Tie as tie

@@ -17,7 +17,6 @@ use native.Mathlib.Nat.{sub-zero}
 use native.Mathlib.Omega.{arith}
 use Prim.Native.Nat.{ℕ, _≤_, _<_, _+_, _-_, _*_, _/_}
 use Rattle.machine.proofs.Joins.{part-length, goes-on, stops, ends, comes-to}
-use mathlib.Core.Bool.{Bool}
 use mathlib.Core.Path.{_≡_, refl, sym, ap, _∙_}
 use Rattle.machine.proofs.run_records.Statement.{statement}
 use Rattle.machine.proofs.run_records.Tie as tie
