@@ -55,14 +55,14 @@ fn summary(cert: &[u8], map: &Map) -> u64 {
     coverage::count(map) as u64 + address_of(uncovered::lowest_unmarked(cert, map)) as u64
 }
 
-// Summaries of a certificate whose every address is a start, the highest alone unmarked.
+// Summaries of a certificate whose every address is a start. All words of the map but the last are full; the last is another each time.
 fn summaries(count: u64) -> u64 {
     let cert = [1u8; CERTIFICATE_LENGTH];
     let mut map: Map = [u64::MAX; WORDS];
-    map[WORDS - 1] = u64::MAX / 2;
     let mut sum = 0;
     let mut left = count;
     while left > 0 {
+        map[WORDS - 1] = left;
         sum = std::num::wrapping_add_u64(sum, summary(&cert, &map));
         left -= 1;
     }

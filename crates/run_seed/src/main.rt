@@ -1,16 +1,22 @@
-// Runs the program in `image.hex` from reset over the records that a seed gives, `run_seed SEED RECORDS`, and prints what the run leaves: whoever has
-// the image, the seed and the number of records gets the same text.
+// Runs the program in `image.hex` from reset over the records that a seed gives, `run_seed SEED RECORDS`, and prints what the run leaves and which
+// code it reached: whoever has the image, the seed and the number of records gets the same text. The starts of instructions are those of `cert.hex`,
+// where the folder has one.
+use base::CERTIFICATE_LENGTH;
 use base::IMAGE_LENGTH;
 use base::RECORD_LENGTH;
+use base::RomAddr;
+use coverage::Map;
+use coverage::WORDS;
 use hex_text::Text;
 use libc::STDERR_FILENO;
 use libc::STDOUT_FILENO;
 use semantics::Mode;
 use semantics::Ran;
 use semantics::State;
+use uncovered::Lowest;
 use xorshift::Filled;
 
-// The most records of one call of `run`, and their bytes.
+// The most records of one call of `run_covered`, and their bytes.
 const PART: u64 = 1000;
 
 const SCHEDULE: usize = (PART as usize) * RECORD_LENGTH;
@@ -67,11 +73,16 @@ fn behind(p: Progress, ran: Ran, seed: u32) -> Progress {
     }
 }
 
-// Goes on over the records that fill a buffer.
-fn run_records(image: &[u8; IMAGE_LENGTH], p: Progress, records: &mut [u8]) -> Progress {
+// Goes on over the records that fill a buffer, and marks in the map where completed instructions began.
+fn run_records(
+    image: &[u8; IMAGE_LENGTH],
+    p: Progress,
+    records: &mut [u8],
+    map: &mut Map,
+) -> Progress {
     let state = p.state;
     match xorshift::fill(p.seed, records) {
-        Filled::State(seed) => behind(p, machine::run(image, state, records), seed),
+        Filled::State(seed) => behind(p, machine::run_covered(image, state, records, map), seed),
         Filled::Refused(number) => Progress {
             state: state,
             steps: p.steps,
@@ -82,7 +93,7 @@ fn run_records(image: &[u8; IMAGE_LENGTH], p: Progress, records: &mut [u8]) -> P
 }
 
 // Goes on over the next n records, at most PART, unless the run has ended.
-fn run_part(image: &[u8; IMAGE_LENGTH], p: Progress, n: u64) -> Progress {
+fn run_part(image: &[u8; IMAGE_LENGTH], p: Progress, n: u64, map: &mut Map) -> Progress {
     if p.stop != 0 {
         return p;
     }
@@ -91,11 +102,11 @@ fn run_part(image: &[u8; IMAGE_LENGTH], p: Progress, n: u64) -> Progress {
     }
     let mut records = [0u8; SCHEDULE];
     let length = (n as usize) * RECORD_LENGTH;
-    run_records(image, p, &mut records[..length])
+    run_records(image, p, &mut records[..length], map)
 }
 
 // From reset, part by part: n records and then m are the n + m that the seed gives.
-fn run_parts(image: &[u8; IMAGE_LENGTH], seed: u32, count: u64) -> Progress {
+fn run_parts(image: &[u8; IMAGE_LENGTH], seed: u32, count: u64, map: &mut Map) -> Progress {
     let state = machine::reset();
     let mut p = Progress {
         state: state,
@@ -105,10 +116,10 @@ fn run_parts(image: &[u8; IMAGE_LENGTH], seed: u32, count: u64) -> Progress {
     };
     let mut left = count;
     while left > PART {
-        p = run_part(image, p, PART);
+        p = run_part(image, p, PART, map);
         left -= PART;
     }
-    run_part(image, p, left)
+    run_part(image, p, left, map)
 }
 
 fn print(text: &[u8]) {
@@ -119,6 +130,16 @@ fn print_row(name: &[u8], value: u64) {
     print(name);
     io::print_decimal(STDOUT_FILENO, value);
     print(b"\n");
+}
+
+fn print_address(name: &[u8], a: RomAddr) {
+    print(name);
+    io::print_hex(STDOUT_FILENO, a.0 as u64, 4);
+    print(b"\n");
+}
+
+fn print_refused(number: u8) {
+    print_row(b"cert.hex refused by ", number as u64);
 }
 
 fn print_mode(mode: Mode) {
@@ -144,20 +165,64 @@ fn print_registers(state: State) {
     }
 }
 
-fn tell(p: Progress) {
+// Reads a certificate's text from an open file, piece by piece: one that is not full is the last. No file has more pieces than it may read.
+fn read_pieces(fd: i32, cert: &mut [u8; CERTIFICATE_LENGTH]) -> Text {
+    let mut s = hex_text::start();
+    let mut left = u64::MAX;
+    while left > 0 {
+        let mut piece = io::buffer();
+        let n = io::read_full(fd, &mut piece);
+        s = hex_text::feed(s, &piece[..n], cert);
+        if n < piece.len() {
+            break;
+        }
+        left -= 1;
+    }
+    hex_text::finish(s, CERTIFICATE_LENGTH)
+}
+
+// Prints the lowest start of a certificate that the run has not reached.
+fn tell_lowest(cert: &[u8; CERTIFICATE_LENGTH], map: &Map) {
+    match uncovered::lowest_unmarked(cert, map) {
+        Lowest::At(a) => print_address(b"lowest unmarked start ", a),
+        Lowest::AllMarked => print(b"every start is marked\n"),
+        Lowest::Refused(number) => print_refused(number),
+    }
+}
+
+// The same of the certificate in an open file.
+fn tell_unreached(fd: i32, map: &Map) {
+    let mut cert = [0u8; CERTIFICATE_LENGTH];
+    match read_pieces(fd, &mut cert) {
+        Text::Read => tell_lowest(&cert, map),
+        Text::Refused(number) => print_refused(number),
+    }
+}
+
+// Prints which code the run has reached; without a `cert.hex`, only how much.
+fn tell_reached(map: &Map) {
+    print_row(b"marked ", coverage::count(map) as u64);
+    let fd = os::open_read(b"cert.hex");
+    if fd < 0 {
+        return;
+    }
+    tell_unreached(fd, map);
+    libc::close(fd);
+}
+
+fn tell(p: Progress, map: &Map) {
     let state = p.state;
     let pc = state.pc;
     let mode = state.mode;
     print_row(b"number ", p.stop as u64);
     print_row(b"steps ", p.steps);
     print_row(b"cycles ", state.cycles as u64);
-    print(b"program counter ");
-    io::print_hex(STDOUT_FILENO, pc.0 as u64, 4);
-    print(b"\n");
+    print_address(b"program counter ", pc);
     print_mode(mode);
     if p.stop == 0 {
         print_row(b"next seed ", p.seed as u64);
     }
+    tell_reached(map);
     print_registers(state);
 }
 
@@ -170,10 +235,16 @@ fn read_image(name: &[u8], image: &mut [u8; IMAGE_LENGTH]) -> Text {
     hex_text::read_text(&text[..n], image)
 }
 
+fn run_and_tell(image: &[u8; IMAGE_LENGTH], seed: u32, count: u64) {
+    let mut map: Map = [0; WORDS];
+    let p = run_parts(image, seed, count, &mut map);
+    tell(p, &map);
+}
+
 fn run(seed: u32, count: u64) {
     let mut image = [0xFFu8; IMAGE_LENGTH];
     match read_image(b"image.hex", &mut image) {
-        Text::Read => tell(run_parts(&image, seed, count)),
+        Text::Read => run_and_tell(&image, seed, count),
         Text::Refused(number) => print_row(b"image.hex refused by ", number as u64),
     }
 }
@@ -184,7 +255,7 @@ fn main() {
     if (seed == NONE) | (count == NONE) {
         io::write_all(
             STDERR_FILENO,
-            b"run_seed SEED RECORDS, in a folder with image.hex. Both are decimal, at most 4294967295.\n",
+            b"run_seed SEED RECORDS, in a folder with image.hex and, for the starts, cert.hex. Both are decimal, at most 4294967295.\n",
         );
         return;
     }

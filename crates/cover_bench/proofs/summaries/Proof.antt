@@ -5,10 +5,13 @@ use Rattle.cover_bench.proofs.summaries.Statement.{statement}
 use Rattle.cover_bench.proofs.summaries.Tie as tie
 
 abbrev Inv-loop : tie.InvT-loop
-Inv-loop count cert map sum₀ left₀ sum left = Unit {0}
+Inv-loop count cert map₀ sum₀ left₀ map sum left = Unit {0}
 
 abbrev μ-loop : tie.MeasureT-loop
-μ-loop count cert map sum₀ left₀ sum left = left
+μ-loop count cert map₀ sum₀ left₀ map sum left = left
+
+loop-holds : tie.Need-loop-holds Inv-loop μ-loop
+loop-holds c = search needs
 
 sub-map : tie.Need-sub-map Inv-loop μ-loop
 sub-map c = search needs
@@ -18,9 +21,6 @@ mul-map c = search needs
 
 array-write-map : tie.Need-array-write-map Inv-loop μ-loop
 array-write-map c = search needs
-
-loop-holds : tie.Need-loop-holds Inv-loop μ-loop
-loop-holds c = search needs
 
 slice-aggregate-summary : tie.Need-slice-aggregate-summary Inv-loop μ-loop
 slice-aggregate-summary c = search needs
@@ -49,10 +49,10 @@ summaries-spec =
     (tie.spec
     Inv-loop
     μ-loop
+    loop-holds
     sub-map
     mul-map
     array-write-map
-    loop-holds
     slice-aggregate-summary
     summary-requires
     wrapping-add-u64-requires
