@@ -77,7 +77,7 @@ fn compare(fd: i32, count: u16, counts: Counts) -> Case {
     let mut five = [0u8; 5];
     let marked = map_cases::read_marks(fd, count, &mut map);
     let edited = test_support::read_edits(fd, &mut cert);
-    let whole = (io::read_full(fd, &mut five) == 5) & marked & edited;
+    let whole = (io::read_full(fd, &mut five) == 5) & marked.whole & edited;
     let expected = expected_of(&five);
     let given = answer_of(&map, uncovered::lowest_unmarked(&cert, &map));
     if whole & same_answer(expected, given) {

@@ -1,4 +1,3 @@
 pub mod BitLaws
 pub mod Map
 pub mod MapLaws
-pub mod TrailingZeros

@@ -3,9 +3,10 @@
 -- Assumes nothing.
 use Prim.Native.Nat.{ℕ, zero, suc, _+_, _*_, _/_, _%_, _^_}
 use mathlib.Core.Bool.{Bool}
-use mathlib.Core.List.{List, map}
+use mathlib.Core.List.{List, [], _∷_, map}
 use lib.ListN.{length, getD, set, replicate}
 use lib.Bits.{bitOr}
+use lib.Count.{ones}
 use lib.Dec.{eqb, ltb}
 use Rattle.base.specs.Choice.{pick, from, count}
 use Rattle.base.specs.Lengths.{romLength}
@@ -53,3 +54,8 @@ joined m n = map (λ w. bitOr (getD m w 0) (getD n w 0)) (from mapWords 0)
 -- "the number of distinct marked addresses"
 unfoldable pub markedCount : List ℕ → ℕ
 markedCount m = count (marked m) (from romLength 0)
+
+-- the set bits of the words, word by word
+unfoldable pub setBits : List ℕ → ℕ
+setBits [] = 0
+setBits (w ∷ r) = ones w + setBits r

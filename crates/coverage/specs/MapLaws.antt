@@ -1,14 +1,15 @@
 -- Maps by their marks: a bit that is set marks one address more, and maps with the same marks are equal.
 -- Assumes nothing.
 use Prim.Native.Nat.{ℕ, zero, suc, _+_, _*_, _/_, _%_, _^_, _<_, _≤_}
-use mathlib.Core.Path.{_≡_, _∙_, refl, sym, ap}
+use mathlib.Core.Path.{_≡_, _∙_, refl, sym, ap, ap₂}
 use mathlib.Core.Logic.{_≢_, ⊎-elim}
 use mathlib.Core.Bool.{Bool, true, false, _&&_, _||_, or-false, and-false}
 use mathlib.Core.List.{List, map}
 use native.Mathlib.Omega.{arith}
-use native.Mathlib.Nat.{add-zero, zero-add, pow-suc, zero-div}
-use lib.ListN.{length, getD, set, getD-replicate, List·getD-eq-default}
-use lib.Seq.{getD-set-same, getD-set-other, ext-getD}
+use native.Mathlib.Nat.{add-zero, zero-add, add-assoc, pow-suc, zero-div}
+use native.Mathlib.Numerals.{add-one}
+use lib.ListN.{length, getD, set, drop, getD-replicate, List·getD-eq-default, drop-of-length-le}
+use lib.Seq.{getD-set-same, getD-set-other, ext-getD, drop-cons}
 use lib.Bits.{bitOr, or-lt}
 use lib.Count.{ones}
 use borrow.Author.Tests.{eqb-true}
@@ -17,7 +18,7 @@ use Rattle.base.specs.Choice.{pick, from, count}
 use Rattle.base.specs.Lengths.{romLength}
 use Rattle.base.specs.Table.{table-at}
 use Rattle.base.specs.Formula.{eqb-no, eqb-yes, of-true, case-bool, same?, le?}
-use Rattle.coverage.specs.Map.{mapWords, bitOf, marked, inside, withMark, bitsFrom, mapOf, emptyMap, joined}
+use Rattle.coverage.specs.Map.{mapWords, bitOf, marked, inside, withMark, bitsFrom, mapOf, emptyMap, joined, markedCount, setBits}
 use Rattle.coverage.specs.BitLaws.{bit-half, bit-lowest, bit-or, bit-single, same-bits, count-same, count-parts, ones-counted}
 
 -- a digit below a number
@@ -180,3 +181,24 @@ unfolding marked joined
 marked-joined m n a h =
     rw (table-at (λ w. bitOr (getD m w 0) (getD n w 0)) 0 mapWords (joined m n) refl (a / 64) (omega arith))
     (bit-or (getD m (a / 64) 0) (getD n (a / 64) 0) (a % 64))
+
+-- the marks of the first w words and the set bits of the others are those of all words
+set-bits-from : (m : List ℕ) (n w : ℕ) → Words m → w + n ≡ length m
+    → count (marked m) (from (64 * w) 0) + setBits (drop w m) ≡ count (marked m) (from (64 * (w + n)) 0)
+unfolding setBits
+set-bits-from m zero w small e =
+    let l : length m ≤ w = omega (arith, e) in
+    rw (drop-of-length-le m l, add-zero w, add-zero (count (marked m) (from (64 * w) 0)))
+set-bits-from m (suc n) w small e =
+    let l : w < length m = omega (arith, e) in
+    let q : w + suc n ≡ w + 1 + n = omega arith in
+    rw (drop-cons m w 0 l, q) (sym (add-assoc (count (marked m) (from (64 * w) 0)) (ones (getD m w 0)) (setBits (drop (suc w) m)))
+    ∙ ap₂ (λ (p : ℕ) (x : List ℕ). p + setBits x) (word-counted m w small) (ap (λ (k : ℕ). drop k m) (sym (add-one w)))
+    ∙ set-bits-from m n (w + 1) small (omega (arith, e)))
+
+-- the count is the number of set bits of the words
+pub set-bits-counted : (m : List ℕ) → length m ≡ mapWords → Words m → markedCount m ≡ setBits m
+unfolding markedCount
+set-bits-counted m size small =
+    let e = set-bits-from m mapWords 0 small (sym size) in
+    sym e ∙ zero-add (setBits m)

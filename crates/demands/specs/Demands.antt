@@ -4,7 +4,7 @@
 --   `new_reader` begun; `check_line` readLine; `read_line` readLine, lineBuffer; `read_text` textAnswer, textBuffer;
 --   `start` started; `feed` feedStream, feedBuffer; `finish` finishAnswer; `write_image` writeAnswer, writeBuffer;
 --   `upper_line` upperAnswer, upperLine; `fill` fillAnswer, fillBuffer;
---   `reset` resetState; `step` stepOf; `run` runOf; `run_covered` coveredRun, coveredMap; `mark` withMark; `count` markedCount;
+--   `reset` resetState; `step` stepOf; `run` runOf; `run_covered` coveredRun, coveredMap; `count` markedCount;
 --   `check` verdictOf; `lowest_unmarked` lowestOf;
 --   `write_report` reportAnswer, reportBuffer; `judge_texts` printedAnswer, printedBuffer.
 -- `judge_files` promises what `judge_texts` does of some two texts: no contract can say what a file holds.
@@ -45,7 +45,7 @@ use Rattle.semantics.specs.Refusals.{StepNumber, Stops, step-stops, run-number}
 use Rattle.coverage.specs.Map.{isMapLength}
 use Rattle.coverage.specs.MapLaws.{Words}
 use Rattle.machine.specs.Reached.{coveredRun, coveredMap}
-use Rattle.machine.specs.CoveredLaws.{covered-number, covered-length, covered-refused}
+use Rattle.machine.specs.CoveredLaws.{covered-number, covered-length, covered-refused, covered-seven}
 use Rattle.machine.specs.Count.{completedSteps, stateBehind, totalCost, Counted, run-state, run-counted}
 use Rattle.hex_line.specs.declared.Reader.{Reader}
 use Rattle.hex_line.specs.Line.{readLine, lineBuffer}
@@ -156,17 +156,21 @@ pub run-leaves : (image schedule : List ℕ) (s : State)
     → runOf image s schedule .state ≡ stateBehind (completedSteps image s schedule) image schedule 0 s
 run-leaves = run-state
 
--- a run with a coverage map: the map keeps its length; where a length is wrong, it is refused by 7 and the map is as it was
+-- a run with a coverage map: the map keeps its length. Where a length is wrong, it is refused by 7; and where it is refused by 7, the map is as it was
 pub covered-refuses : (image : List ℕ) (s : State) (schedule m : List ℕ) → StepNumber (coveredRun image s schedule (length m) .stop)
 covered-refuses = covered-number
 
 pub covered-keeps-length : (image : List ℕ) (s : State) (schedule m : List ℕ) → length (coveredMap image s schedule m) ≡ length m
 covered-keeps-length = covered-length
 
-pub covered-lends : (image : List ℕ) (s : State) (schedule m : List ℕ) → Words m
+pub covered-length-refused : (image : List ℕ) (s : State) (schedule m : List ℕ) → Words m
     → (isMapLength (length m) && (isImageLength (length image) && eqb (length schedule % recordLength) 0)) ≡ false
     → (coveredRun image s schedule (length m) ≡ ran s 0 7) × (coveredMap image s schedule m ≡ m)
-covered-lends = covered-refused
+covered-length-refused = covered-refused
+
+pub covered-unchanged : (image : List ℕ) (s : State) (schedule m : List ℕ) → Words m → coveredRun image s schedule (length m) .stop ≡ 7
+    → coveredMap image s schedule m ≡ m
+covered-unchanged = covered-seven
 
 pub check-refuses : (image cert : List ℕ) (n : ℕ) (a : RomAddr) → verdictOf image cert ≡ Refused n a → CheckNumber n
 check-refuses = verdict-number

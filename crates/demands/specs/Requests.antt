@@ -11,6 +11,7 @@ use lib.ListN.{length, getD}
 use Rattle.base.specs.declared.RomAddr.{RomAddr}
 use Rattle.base.specs.Addresses.{flagsCell, romAddr}
 use Rattle.base.specs.Cells.{Bytes}
+use Rattle.base.specs.Choice.{from, count}
 use Rattle.base.specs.Formula.{Holds, eqb-yes}
 use Rattle.base.specs.Lengths.{romLength, certificateLength, recordLength}
 use Rattle.base.specs.Outcome.Outcome.{value, refused}
@@ -32,11 +33,11 @@ use Rattle.semantics.specs.Operands.{withFlags}
 use Rattle.semantics.specs.declared.State.{State}
 use Rattle.semantics.specs.Step.{requested, entryDue, behind, stepOf}
 use Rattle.semantics.specs.Run.{ran, recordAt, runOf}
-use Rattle.coverage.specs.Map.{mapWords, marked, emptyMap, joined}
-use Rattle.coverage.specs.MapLaws.{Words, same-marks, marked-joined, marked-past}
-use Rattle.machine.specs.Reached.{coveredRun, coveredMap}
-use Rattle.machine.specs.CoveredLaws.{Reaches, mark-stays, completed-marked, no-other-mark, covered-joins}
-use Rattle.machine.specs.AppendLaws.{run-in-turn, run-stopped, covered-in-turn}
+use Rattle.coverage.specs.Map.{mapWords, marked, emptyMap, joined, markedCount, setBits}
+use Rattle.coverage.specs.MapLaws.{Words, same-marks, marked-joined, marked-past, set-bits-counted}
+use Rattle.machine.specs.Reached.{reached, coveredRun, coveredMap}
+use Rattle.machine.specs.CoveredLaws.{Reaches, mark-stays, completed-marked, no-other-mark, covered-joins, covered-count}
+use Rattle.machine.specs.AppendLaws.{run-in-turn, run-stopped, covered-in-turn, covered-stopped}
 use Rattle.certificate.specs.declared.Flow.the-variants.{Step, Call}
 use Rattle.certificate.specs.Layout.{Certificate, certificateOf}
 use Rattle.safety.specs.Rules.{noCell, Edge, edge26, rule26}
@@ -120,7 +121,7 @@ maps-join = covered-joins
 pub joined-marks : (m n : List ℕ) (a : ℕ) → a < romLength → marked (joined m n) a ≡ (marked m a || marked n a)
 joined-marks = marked-joined
 
--- running a and then b, if a is not stopped, answers and marks as running a ++ b; if it is, a ++ b stops there
+-- running a and then b, if a is not stopped, answers and marks as running a ++ b
 pub in-turn : (image : List ℕ) (s : State) (a b : List ℕ) → length a % recordLength ≡ 0 → length b % recordLength ≡ 0 → runOf image s a .stop ≡ 0
     → let first = runOf image s a in
     let second = runOf image (first .state) b in
@@ -128,13 +129,23 @@ pub in-turn : (image : List ℕ) (s : State) (a b : List ℕ) → length a % rec
     × ((m : List ℕ) → coveredMap image s (a ++ b) m ≡ coveredMap image (first .state) b (coveredMap image s a m))
 in-turn image s a b wa wb z = (run-in-turn image s a b wa wb z, covered-in-turn image s a b wa wb z)
 
+-- if it is, a ++ b stops there, and marks no more
 pub stopped-first : (image : List ℕ) (s : State) (a b : List ℕ) → length a % recordLength ≡ 0 → length b % recordLength ≡ 0
-    → (runOf image s a .stop ≡ 0 → ⊥) → runOf image s (a ++ b) ≡ runOf image s a
-stopped-first = run-stopped
+    → (runOf image s a .stop ≡ 0 → ⊥)
+    → (runOf image s (a ++ b) ≡ runOf image s a) × ((m : List ℕ) → coveredMap image s (a ++ b) m ≡ coveredMap image s a m)
+stopped-first image s a b wa wb z = (run-stopped image s a b wa wb z, covered-stopped image s a b wa wb z)
 
 -- the summary is two calls. `coverage::count` answers `markedCount`: how many of the 4096 addresses of ROM are marked. No other address is
 pub none-past-rom : (m : List ℕ) (a : ℕ) → length m ≡ mapWords → romLength ≤ a → marked m a ≡ false
 none-past-rom = marked-past
+
+-- it is the number of set bits of the words; and of a run from an empty map, the number of addresses that it reaches
+pub count-of-set-bits : (m : List ℕ) → length m ≡ mapWords → Words m → markedCount m ≡ setBits m
+count-of-set-bits = set-bits-counted
+
+pub count-of-a-run : (image : List ℕ) (s : State) (schedule : List ℕ)
+    → markedCount (coveredMap image s schedule emptyMap) ≡ count (reached image s schedule) (from romLength 0)
+count-of-a-run = covered-count
 
 -- `uncovered::lowest_unmarked` answers `lowestOf`: the address that it names is a start (its entry's routine is not 0) and unmarked, and every lower start
 -- is marked (`LowestStart`); and that address is named

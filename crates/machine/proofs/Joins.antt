@@ -41,7 +41,7 @@ part-length i = omega arith
 module _ (n i : ℕ) (image schedule : List ℕ) (s : State) (r : Stepped) (size : length image ≡ romLength)
     (count : n ≡ length schedule / recordLength) (h : i < n)
     (e : r ≡ settled s (actedOf image s (take (i * recordLength + recordLength - i * recordLength) (drop (i * recordLength) schedule)))) where
-  pub this-step : r ≡ stepOf image s (recordAt schedule i)
+  this-step : r ≡ stepOf image s (recordAt schedule i)
   this-step =
       let w : length (recordAt schedule i) ≡ recordLength = simp (length-take, length-drop) (omega arith) in
       rw (part-length i) at e ∙ sym (step-right image s (recordAt schedule i) size w)

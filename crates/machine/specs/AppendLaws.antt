@@ -8,7 +8,6 @@ use mathlib.Core.Bool.{Bool, true, false, _&&_, _||_, and-true, or-assoc, or-com
 use mathlib.Core.List.{List, _++_}
 use native.Mathlib.Omega.{arith}
 use native.Mathlib.Nat.{add-zero, zero-add, add-suc, suc-add}
-use native.Mathlib.Numerals.{add-one}
 use lib.ListN.{length, drop, length-append, length-drop}
 use lib.Seq.{take-append-le, drop-append-le, drop-append-add}
 use lib.Dec.{eqb}
@@ -26,7 +25,7 @@ use Rattle.coverage.specs.Map.{isMapLength, marked, mapOf}
 use Rattle.coverage.specs.MapLaws.{length-map-of, marked-map-of, same-map-of}
 use Rattle.machine.specs.Count.{completedOf, completedSteps, stateBehind, run-steps, run-state, steps-completed}
 use Rattle.machine.specs.Reached.{beginsAt, someBelow, reached, coveredMap}
-use Rattle.machine.specs.ReachedLaws.{state-next}
+use Rattle.machine.specs.ReachedLaws.{state-more}
 
 -- the choice that a run makes by whether a step is completed
 abbrev fork : {A : Type 0} → Bool → A → A → A
@@ -110,10 +109,6 @@ run-same image whole part k i s same =
     ap (λ (l : ℕ). runFrom l image whole i s) (sym (add-zero k)) ∙ run-then image whole part 0 k i 0 s same
     ∙ pick-has (λ (x : Ran). x ≡ ran (r .state) (i + completedOf k image part 0 s) (r .stop)) (eqb (r .stop) 0) _ _
     (λ e. let z = eqb-true (r .stop) 0 e in rw (z, from-counts k image part 0 s .all z)) (λ _. refl)
-
-state-more : (k : ℕ) (image schedule : List ℕ) (s : State)
-    → stateBehind (suc k) image schedule 0 s ≡ stepOf image (stateBehind k image schedule 0 s) (recordAt schedule k) .state
-state-more k image schedule s = rw (← (add-one k)) (state-next k image schedule s)
 
 -- behind m records of a whole, its next k records being those of a part: the state behind them, and what begins at each
 module _ (image whole part : List ℕ) (m : ℕ) (s t : State) (e : stateBehind m image whole 0 s ≡ t) where
@@ -234,12 +229,19 @@ module _ (image : List ℕ) (s : State) (a b : List ℕ) (wa : length a % record
       some-same i (beginsAt image s both x) (beginsAt image s a x)
       (λ j l. rw (zero-add j) at (begins-then image both a 0 s s refl k first-records x j (omega arith)))
 
-  pub reached-stopped : runOf image s a .stop ≢ 0 → (x : ℕ) → reached image s (a ++ b) x ≡ reached image s a x
+  reached-stopped : runOf image s a .stop ≢ 0 → (x : ℕ) → reached image s (a ++ b) x ≡ reached image s a x
   unfolding reached
   reached-stopped z x =
       let e : completedSteps image s both ≡ completedSteps image s a =
       sym (steps-completed image both s) ∙ ap (λ (r : Ran). r .steps) (run-stopped z) ∙ steps-completed image a s in
       rw e (first-reached x (completedSteps image s a) (counts image s a .few))
+
+  pub covered-stopped : runOf image s a .stop ≢ 0 → (m : List ℕ) → coveredMap image s (a ++ b) m ≡ coveredMap image s a m
+  covered-stopped z m =
+      let e = same-map-of (λ x. marked m x || reached image s both x) (λ x. marked m x || reached image s a x)
+      (λ x _. ap (λ (t : Bool). marked m x || t) (reached-stopped z x)) in
+      covered-by image s both m (isMapLength (length m)) refl ∙ ap (λ (x : List ℕ). pick (isMapLength (length m)) x m) e
+      ∙ sym (covered-by image s a m (isMapLength (length m)) refl)
 
   module _ (z : runOf image s a .stop ≡ 0) where
     all-first : completedSteps image s a ≡ k
@@ -249,7 +251,7 @@ module _ (image : List ℕ) (s : State) (a b : List ℕ) (wa : length a % record
     unfolding stateBehind
     behind-first = (rw (zero-add k) at (behind-then image both a 0 s s refl k first-records)) ∙ sym (rw all-first at (run-state image a s))
 
-    pub reached-in-turn : (x : ℕ) → reached image s (a ++ b) x ≡ (reached image s a x || reached image (runOf image s a .state) b x)
+    reached-in-turn : (x : ℕ) → reached image s (a ++ b) x ≡ (reached image s a x || reached image (runOf image s a .state) b x)
     unfolding reached
     reached-in-turn x =
         let i = completedSteps image middle b in

@@ -1,6 +1,6 @@
 -- What a coverage map holds after a run: its old marks and where the completed instructions began; runs with one map join what each marks.
 -- Assumes nothing.
-use Prim.Native.Nat.{ℕ, zero, suc, _%_, _<_, _≤_}
+use Prim.Native.Nat.{ℕ, zero, suc, _+_, _%_, _<_, _≤_}
 use mathlib.Core.Path.{_≡_, _∙_, refl, sym, ap, ap₂}
 use mathlib.Core.Logic.{_≢_, _⊎_, inl, inr, ⊎-elim}
 use mathlib.Core.Bool.{Bool, true, false, _&&_, _||_, or-false, or-true, false≢true}
@@ -9,20 +9,21 @@ use native.Mathlib.Omega.{arith}
 use lib.ListN.{length}
 use lib.Dec.{eqb}
 use borrow.Author.Tests.{eqb-true}
-use Rattle.base.specs.Choice.{pick}
+use Rattle.base.specs.Choice.{pick, from, count}
 use Rattle.base.specs.ChoiceLaws.{pick-has}
 use Rattle.base.specs.Formula.{eqb-yes, case-bool, same?, le?}
 use Rattle.base.specs.Lengths.{romLength, isImageLength, recordLength}
 use Rattle.semantics.specs.declared.State.{State}
 use Rattle.semantics.specs.declared.Ran.{Ran}
 use Rattle.semantics.specs.Step.{actedOf}
-use Rattle.semantics.specs.Refusals.{StepNumber, run-number}
+use Rattle.semantics.specs.Refusals.{StepNumber, run-number, run-seven}
 use Rattle.semantics.specs.Run.{ran, recordAt, runOf}
-use Rattle.coverage.specs.Map.{mapWords, isMapLength, marked, mapOf, emptyMap, joined}
+use Rattle.coverage.specs.Map.{mapWords, isMapLength, marked, mapOf, emptyMap, joined, markedCount}
+use Rattle.coverage.specs.BitLaws.{count-same}
 use Rattle.coverage.specs.MapLaws.{Words, marked-map-of, map-of-marks, length-map-of, words-map-of, marked-past, same-marks, marked-empty, marked-joined, words-joined, length-joined}
 use Rattle.machine.specs.Count.{stateBehind, completedSteps}
 use Rattle.machine.specs.Reached.{beginsAt, someBelow, reached, coveredRun, coveredMap}
-use Rattle.machine.specs.Retired.{Completes, retired-completes, completes-retired}
+use Rattle.machine.specs.Retired.{Completes, retired-completes, completes-retired, completes-place}
 
 -- an address at which an instruction began that a run completed: the state before that step was there
 pub record Reaches (image : List ℕ) (s : State) (schedule : List ℕ) (a : ℕ) : Type 0 where
@@ -76,7 +77,7 @@ module _ (image : List ℕ) (s : State) (schedule : List ℕ) where
   unfolding completedSteps
   reached-in-rom a r =
       let e = r .address in
-      let l = r .instruction .place in
+      let l = completes-place image (stateBehind (r .step) image schedule 0 s) (recordAt schedule (r .step)) (r .instruction) in
       pick-has (λ (n : ℕ). r .step < n → a < romLength) (isImageLength (length image) && eqb (length schedule % recordLength) 0) _ 0
       (λ h _.
       let size = eqb-true (length image) romLength (both-true (isImageLength (length image)) _ h .0) in
@@ -172,3 +173,23 @@ unfolding coveredRun
 covered-number image s schedule m =
     pick-has (λ (r : Ran). StepNumber (r .stop)) (isMapLength (length m)) (runOf image s schedule) (ran s 0 7) (λ _. run-number image schedule s)
     (λ _. inr (inl refl))
+
+-- a run that is refused by 7 leaves the map
+pub covered-seven : (image : List ℕ) (s : State) (schedule m : List ℕ) → Words m → coveredRun image s schedule (length m) .stop ≡ 7
+    → coveredMap image s schedule m ≡ m
+unfolding coveredRun
+covered-seven image s schedule m small = on (isMapLength (length m)) refl
+  where
+    on : (t : Bool) → isMapLength (length m) ≡ t → pick t (runOf image s schedule) (ran s 0 7) .stop ≡ 7 → coveredMap image s schedule m ≡ m
+    on true h z = covered-refused image s schedule m small (rw h (run-seven image schedule s z)) .1
+    on false h z = covered-refused image s schedule m small (rw h) .1
+
+-- the count from an empty map is how many addresses the run reaches
+pub covered-count : (image : List ℕ) (s : State) (schedule : List ℕ)
+    → markedCount (coveredMap image s schedule emptyMap) ≡ count (reached image s schedule) (from romLength 0)
+unfolding markedCount
+covered-count image s schedule =
+    count-same (marked (coveredMap image s schedule emptyMap)) (reached image s schedule) romLength 0 0
+    (λ a l.
+    let h : 0 + a < romLength = omega (arith, l) in
+    covered-marked image s schedule emptyMap empty-length (0 + a) h ∙ ap (λ (t : Bool). t || reached image s schedule (0 + a)) (marked-empty (0 + a) h))

@@ -29,18 +29,22 @@ step-more (suc k) image schedule i s =
     let e : i + 1 + k ≡ i + suc k = omega arith in
     rw (← e) (step-more k image schedule (i + 1) (stepOf image s (recordAt schedule i) .state))
 
+pub state-more : (k : ℕ) (image schedule : List ℕ) (s : State)
+    → stateBehind (suc k) image schedule 0 s ≡ stepOf image (stateBehind k image schedule 0 s) (recordAt schedule k) .state
+state-more k image schedule s = rw (zero-add k) at (step-more k image schedule 0 s)
+
 pub state-next : (i : ℕ) (image schedule : List ℕ) (s : State)
     → stateBehind (i + 1) image schedule 0 s ≡ stepOf image (stateBehind i image schedule 0 s) (recordAt schedule i) .state
-state-next i image schedule s = rw (add-one i) (rw (zero-add i) at (step-more i image schedule 0 s))
+state-next i image schedule s = rw (add-one i) (state-more i image schedule s)
 
 -- a map before anything is marked
 pub marks-none : (m : List ℕ) (f : ℕ → Bool) → ((a : ℕ) → f a ≡ false) → Marks m m f
 marks-none m f none a = rw (none a, and-false (inside m a)) (sym (or-false (marked m a)))
 
-both : (old n some one : Bool) → (old || (n && some) || (n && one)) ≡ (old || (n && (one || some)))
-both true n some one = refl
-both false true some one = or-comm some one
-both false false some one = refl
+or-parts : (old n some one : Bool) → (old || (n && some) || (n && one)) ≡ (old || (n && (one || some)))
+or-parts true n some one = refl
+or-parts false true some one = or-comm some one
+or-parts false false some one = refl
 
 -- what the step of record i marks
 retired-marks : (m : List ℕ) (pc : ℕ) (retired : Bool) → Marks m (pick retired (withMark m pc) m) (λ a. retired && eqb pc a)
@@ -62,7 +66,7 @@ module _ (image schedule : List ℕ) (s : State) (before m : List ℕ) (i : ℕ)
   marks-next size h retired r a =
       retired-marks m (here .pc .0) retired a
       ∙ ap₂ (λ (x y : Bool). x || y) (h a) (ap₂ (λ (n : ℕ) (y : Bool). ltb (a / 64) n && y) size (begins retired r a))
-      ∙ both (marked before a) (inside before a) (reachedIn i image s schedule a) (beginsAt image s schedule a i)
+      ∙ or-parts (marked before a) (inside before a) (reachedIn i image s schedule a) (beginsAt image s schedule a i)
       ∙ ap (λ (k : ℕ). marked before a || (inside before a && reachedIn k image s schedule a)) (sym (add-one i))
 
 -- the marks of what is equal to the run

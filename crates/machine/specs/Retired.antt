@@ -22,11 +22,10 @@ use Rattle.semantics.specs.declared.State.{State}
 use Rattle.semantics.specs.Execute.{Executed}
 use Rattle.semantics.specs.Step.{Acted, entryDue, finishOf, afterDecode, instructionAct, modeAct, actAfterRequests, requested, actedOf}
 
--- a running machine, no entry, an instruction within the image, and no refusal
+-- a running machine, no entry, and no refusal
 pub record Completes (image : List ℕ) (s : State) (rec : List ℕ) : Type 0 where
   pub running : s .mode ≡ Running
   pub no-entry : entryDue (requested s rec) (s .mode) ≡ false
-  pub place : s .pc .0 < length image
   pub done : actedOf image s rec .stop ≡ 0
 
 -- an act that retires is not refused; one that may retire and is not refused does
@@ -68,9 +67,9 @@ module _ (image : List ℕ) (s : State) (rec : List ℕ) where
   running-retires = decode-retires (decodeAt image (s .pc .0)) not-zero image s regs rec
 
   -- by the mode, where no entry is due
-  by-mode : (m : Mode) → modeAct m image s regs rec .retired ≡ true → (m ≡ Running) × (s .pc .0 < length image) × (modeAct m image s regs rec .stop ≡ 0)
+  by-mode : (m : Mode) → modeAct m image s regs rec .retired ≡ true → (m ≡ Running) × (modeAct m image s regs rec .stop ≡ 0)
   unfolding modeAct
-  by-mode Running r = (refl, decode-place image s regs rec r, running-retires .done r .1)
+  by-mode Running r = (refl, running-retires .done r .1)
   by-mode Idle r = absurd (false≢true r)
   by-mode Stopped r = absurd (false≢true r)
 
@@ -83,7 +82,7 @@ module _ (image : List ℕ) (s : State) (rec : List ℕ) where
       on true h r = absurd (false≢true (finish-retires s _ false _ .done r .0))
       on false h r =
           let q = by-mode (s .mode) r in
-          record { running = q .0; no-entry = h; place = q .1; done = rw (actedOf, h) (q .2) }
+          record { running = q .0; no-entry = h; done = rw (actedOf, h) (q .1) }
 
   -- and one that completes an instruction retires it
   pub completes-retired : Completes image s rec → actedOf image s rec .retired ≡ true
@@ -93,3 +92,11 @@ module _ (image : List ℕ) (s : State) (rec : List ℕ) where
       rw (h .no-entry)
       (subst (λ (m : Mode). modeAct m image s regs rec .stop ≡ 0 → modeAct m image s regs rec .retired ≡ true) (sym (h .running))
       (running-retires .does refl) (rw (h .no-entry) at z))
+
+  -- an instruction that is completed begins within the image
+  pub completes-place : Completes image s rec → s .pc .0 < length image
+  unfolding actedOf actAfterRequests modeAct regs
+  completes-place h =
+      let r = completes-retired h in
+      decode-place image s regs rec
+      (subst (λ (m : Mode). modeAct m image s regs rec .retired ≡ true) (h .running) (rw (h .no-entry) at r))

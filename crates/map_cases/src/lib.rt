@@ -3,7 +3,13 @@ use base::ROM_END;
 use coverage::Map;
 use coverage::WORDS;
 
-// Marks an address; whether it is one of ROM, and had no mark.
+// How a list of addresses was read: whether the file has them all and they are of ROM, and whether each is another.
+pub struct Marks {
+    pub whole: bool,
+    pub distinct: bool,
+}
+
+// Marks an address of ROM; whether it had no mark.
 fn mark(map: &mut Map, a: u16) -> bool {
     if ROM_END <= a {
         return false;
@@ -15,22 +21,33 @@ fn mark(map: &mut Map, a: u16) -> bool {
     is_new
 }
 
-// Marks the next address of a file; whether the file has all of it, and it is a new one of ROM.
-fn read_mark(fd: i32, map: &mut Map) -> bool {
+// Marks the next address of a file.
+fn read_mark(fd: i32, map: &mut Map) -> Marks {
     let mut two = [0u8; 2];
     let n = io::read_full(fd, &mut two);
-    mark(map, test_support::word(two[0], two[1])) & (n == 2)
+    let a = test_support::word(two[0], two[1]);
+    Marks {
+        whole: (n == 2) & (a < ROM_END),
+        distinct: mark(map, a),
+    }
 }
 
-// Marks the next addresses of a file, so many; whether the file has them all, and they are of ROM and differ.
-pub fn read_marks(fd: i32, count: u16, map: &mut Map) -> bool {
-    let mut whole = true;
+// Marks the next addresses of a file, so many.
+pub fn read_marks(fd: i32, count: u16, map: &mut Map) -> Marks {
+    let mut marks = Marks {
+        whole: true,
+        distinct: true,
+    };
     let mut left = count;
     while left > 0 {
-        whole = read_mark(fd, map) & whole;
+        let next = read_mark(fd, map);
+        marks = Marks {
+            whole: marks.whole & next.whole,
+            distinct: marks.distinct & next.distinct,
+        };
         left -= 1;
     }
-    whole
+    marks
 }
 
 // Whether two maps have the same marks.

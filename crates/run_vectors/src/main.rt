@@ -1,5 +1,6 @@
 // Compares `machine::run_covered` and `machine::run` with the cases of the file `runs.bin`, and prints what differs. A case is a configuration; edits of an
 // image of FFH; a state; records; and what a run over them leaves from an empty map. From the marks that it leaves, and from all marks, it must add none.
+// Maps of other lengths come first.
 use base::IMAGE_LENGTH;
 use base::RECORD_LENGTH;
 use coverage::Map;
@@ -16,6 +17,7 @@ use semantics::State;
 use test_support::Case;
 use test_support::Counts;
 use test_support::print;
+use test_support::print_number;
 use test_support::word_at;
 
 // Where the parts of what a case gives behind its image begin. The last is the count of the records, which follow it.
@@ -184,7 +186,7 @@ fn compare(fd: i32, configuration: &Configuration, counts: Counts) -> Case {
     let scheduled = read_records(fd, count, &mut schedule);
     let ended = io::read_full(fd, &mut expected) == EXPECTED_LENGTH;
     let marked = map_cases::read_marks(fd, word_at(&expected, MARKED), &mut marks);
-    let whole = edited & started & scheduled & ended & marked;
+    let whole = edited & started & scheduled & ended & marked.whole & marked.distinct;
     let supported = is_supported(configuration, &given, &expected);
     let records = first_records(&schedule, count);
     let runs = runs_of(&image, &given, records, &expected, &marks);
@@ -205,11 +207,37 @@ fn run_case(fd: i32, counts: Counts) -> Case {
     compare(fd, &configuration, counts)
 }
 
-fn main() {
+fn run_cases() {
     let fd = test_support::open(b"runs.bin");
     let mut counts = test_support::start();
     while counts.left > 0 {
         counts = test_support::counted(counts, run_case(fd, counts));
     }
     test_support::finish(fd, counts);
+}
+
+// Prints the number, the steps and the word of 0100H that one NOP leaves with a map of so many words, at most one too many.
+fn try_words(words: usize) {
+    let image: Image = [255; IMAGE_LENGTH];
+    let mut map = [0u64; WORDS + 1];
+    let state = machine::reset();
+    if words <= WORDS + 1 {
+        let ran = machine::run_covered(&image, state, &[0; RECORD_LENGTH], &mut map[0..words]);
+        print_number(words as u64);
+        print(b" words: ");
+        print_number(ran.stop as u64);
+        print(b", steps ");
+        print_number(ran.steps as u64);
+        print(b", marks ");
+        print_number(map[4]);
+        print(b"\n");
+    }
+}
+
+fn main() {
+    try_words(0);
+    try_words(WORDS - 1);
+    try_words(WORDS);
+    try_words(WORDS + 1);
+    run_cases();
 }

@@ -2,15 +2,17 @@
 -- Assumes nothing.
 use Prim.Native.Nat.{ℕ, zero, suc, _+_, _/_, _%_, _≤_}
 use mathlib.Core.Path.{_≡_, refl}
-use mathlib.Core.Logic.{_≢_, _⊎_, inl, inr}
+use mathlib.Core.Logic.{_≢_, _⊎_, inl, inr, ⊎-elim}
 use mathlib.Core.Bool.{Bool, true, false, _&&_}
 use mathlib.Core.List.{List}
 use native.Mathlib.Omega.{arith}
-use lib.ListN.{length, getD}
+use lib.ListN.{length, getD, length-take, length-drop}
 use lib.Dec.{eqb, ltb}
 use Rattle.base.specs.declared.RomAddr.{RomAddr}
 use Rattle.base.specs.Addresses.{romAddr, stopconCell}
+use Rattle.base.specs.Choice.{pick}
 use Rattle.base.specs.ChoiceLaws.{pick-has}
+use Rattle.base.specs.Formula.{eqb-yes}
 use Rattle.base.specs.Outcome.{Outcome}
 use Rattle.base.specs.Outcome.Outcome.{value, refused}
 use Rattle.base.specs.Lengths.{isImageLength, recordLength}
@@ -77,14 +79,24 @@ execute-ends Action.Nop n image regs rec pc = inl refl
 abbrev pub StepNumber : ℕ → Type 0
 StepNumber n = (n ≡ 0) ⊎ (n ≡ 7) ⊎ ((10 ≤ n) × (n ≤ 14))
 
--- what an act or a step from s ends in: its number, and where it is refused the state before it
+-- 0, or a number by which an act is refused
+abbrev ActNumber : ℕ → Type 0
+ActNumber n = (n ≡ 0) ⊎ ((10 ≤ n) × (n ≤ 14))
+
+-- what a step from s ends in: its number, and where it is refused the state before it
 pub record Stops (s after : State) (n : ℕ) : Type 0 where
   pub number : StepNumber n
   pub unchanged : n ≢ 0 → after ≡ s
 
-widened : {n : ℕ} → ActionNumber n → StepNumber n
+widened : {n : ℕ} → ActionNumber n → ActNumber n
 widened {n} (inl z) = inl z
-widened {n} (inr h) = inr (inr (omega (arith, h .0), omega (arith, h .1)))
+widened {n} (inr h) = inr (omega (arith, h .0), omega (arith, h .1))
+
+not-seven : {n : ℕ} → ActNumber n → n ≢ 7
+not-seven {n} (inl z) = omega (arith, z)
+not-seven {n} (inr h) =
+    let l = h .0 in
+    omega (arith, l)
 
 enter-ends : (image regs : List ℕ) (pc : RomAddr) → Ends (enterOf image regs pc .next)
 unfolding enterOf
@@ -93,8 +105,9 @@ enter-ends image regs pc =
     goes-on (a .ok && pushOf (a .regs) (flagsOf (a .regs)) .ok) pc
 
 module _ (s : State) where
-  abbrev ActStops : Acted → Type 0
-  ActStops a = Stops s (a .state) (a .stop)
+  record ActStops (a : Acted) : Type 0 where
+    number : ActNumber (a .stop)
+    unchanged : a .stop ≢ 0 → a .state ≡ s
 
   finish-stops : (e : Executed) (retired : Bool) (cost : ℕ) → Ends (e .next) → ActStops (finishOf s e retired cost)
   unfolding finishOf
@@ -108,7 +121,7 @@ module _ (s : State) where
   decode-stops (value d) image regs rec e = finish-stops _ true _ (execute-ends _ _ image regs rec _)
   decode-stops (refused n) image regs rec e =
       let h = decode-number image (s .pc .0) n e in
-      record { number = inr (inr (h .0, omega (arith, h .1))); unchanged = λ _. refl }
+      record { number = inr (h .0, omega (arith, h .1)); unchanged = λ _. refl }
 
   mode-stops : (m : Mode) (image regs rec : List ℕ) → ActStops (modeAct m image s regs rec)
   unfolding modeAct instructionAct
@@ -124,7 +137,16 @@ module _ (s : State) where
   -- what settles keeps the number, and a refused act's state
   settled-stops : (a : Acted) → ActStops a → Stops s (settled s a .state) (settled s a .stop)
   unfolding settled
-  settled-stops a h = h
+  settled-stops a h = record { number = ⊎-elim inl (λ n. inr (inr n)) (h .number); unchanged = h .unchanged }
+
+  settled-not-seven : (a : Acted) → ActStops a → settled s a .stop ≢ 7
+  unfolding settled
+  settled-not-seven a h = not-seven (h .number)
+
+  -- 7 is for lengths alone
+  pub step-not-seven : (image rec : List ℕ) → (isImageLength (length image) && eqb (length rec) recordLength) ≡ true → stepOf image s rec .stop ≢ 7
+  unfolding stepOf actedOf
+  step-not-seven image rec e = rw e (settled-not-seven _ (act-stops (entryDue (requested s rec) (s .mode)) image (requested s rec) rec))
 
   pub step-stops : (image rec : List ℕ) → Stops s (stepOf image s rec .state) (stepOf image s rec .stop)
   unfolding stepOf actedOf
@@ -151,3 +173,36 @@ unfolding runOf
 run-number image schedule s =
     pick-has (λ (r : Ran). StepNumber (r .stop)) (isImageLength (length image) && eqb (length schedule % recordLength) 0) _ _
     (λ _. run-from-number (length schedule / recordLength) image schedule 0 s) (λ _. inr (inl refl))
+
+-- a run over the records that a schedule has, on an image of the right length
+run-from-not-seven : (k : ℕ) (image schedule : List ℕ) (i : ℕ) (s : State) → isImageLength (length image) ≡ true → i + k ≤ length schedule / recordLength
+    → runFrom k image schedule i s .stop ≢ 7
+unfolding runFrom
+run-from-not-seven zero image schedule i s e h = omega arith
+run-from-not-seven (suc k) image schedule i s e h =
+    on (eqb (r .stop) 0) (run-from-not-seven k image schedule (i + 1) (r .state) e (omega (arith, h)))
+  where
+    r : Stepped
+    r = stepOf image s (recordAt schedule i)
+
+    whole : length (recordAt schedule i) ≡ recordLength
+    whole = simp (length-take, length-drop) (omega (arith, h))
+
+    on : (b : Bool) → runFrom k image schedule (i + 1) (r .state) .stop ≢ 7
+        → (elim b as (λ _. Ran) [ true ↦ runFrom k image schedule (i + 1) (r .state) | false ↦ ran (r .state) i (r .stop) ]) .stop ≢ 7
+    on true rest = rest
+    on false rest = step-not-seven s image (recordAt schedule i) (rw (e, eqb-yes whole))
+
+-- so a run is refused by 7 only where a length is wrong
+pub run-seven : (image schedule : List ℕ) (s : State) → runOf image s schedule .stop ≡ 7
+    → (isImageLength (length image) && eqb (length schedule % recordLength) 0) ≡ false
+unfolding runOf
+run-seven image schedule s = on (isImageLength (length image)) (eqb (length schedule % recordLength) 0) refl
+  where
+    n : ℕ
+    n = length schedule / recordLength
+
+    on : (a b : Bool) → isImageLength (length image) ≡ a → (pick (a && b) (runFrom n image schedule 0 s) (ran s 0 7)) .stop ≡ 7 → (a && b) ≡ false
+    on true true e h = absurd (run-from-not-seven n image schedule 0 s e (omega arith) h)
+    on true false e h = refl
+    on false b e h = refl

@@ -18,7 +18,7 @@ use Rattle.certificate.specs.Layout.{certificateOf}
 use Rattle.coverage.specs.Map.{bitOf, marked}
 use Rattle.coverage.specs.BitLaws.{bit-or, bit-single, shifted-one}
 use Rattle.coverage.specs.MapLaws.{marked-at}
-use Rattle.coverage.specs.TrailingZeros.{LowestClear, lowest-clear}
+use Rattle.uncovered.specs.TrailingZeros.{LowestClear, lowest-clear}
 use Rattle.uncovered.specs.Lowest.{isStart, unmarkedStart, LowestStart}
 use Rattle.uncovered.specs.LowestLaws.{unmarked-not, unmarked-lowest}
 

@@ -5,10 +5,10 @@ use Rattle.map_cases.proofs.read_marks.Statement.{statement}
 use Rattle.map_cases.proofs.read_marks.Tie as tie
 
 abbrev Inv-loop : tie.InvT-loop
-Inv-loop fd count map₀ whole₀ left₀ map whole left = Unit {0}
+Inv-loop fd count map₀ marks₀ left₀ map marks left = Unit {0}
 
 abbrev μ-loop : tie.MeasureT-loop
-μ-loop fd count map₀ whole₀ left₀ map whole left = left
+μ-loop fd count map₀ marks₀ left₀ map marks left = left
 
 loop-holds : tie.Need-loop-holds Inv-loop μ-loop
 loop-holds c = search needs

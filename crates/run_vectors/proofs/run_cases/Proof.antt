@@ -1,8 +1,8 @@
 -- Every case is run: the measure is the number of cases that may still come.
 -- Assumes nothing.
 use borrow.Author.Needs.{needs}
-use Rattle.run_vectors.proofs.main.Statement.{statement}
-use Rattle.run_vectors.proofs.main.Tie as tie
+use Rattle.run_vectors.proofs.run_cases.Statement.{statement}
+use Rattle.run_vectors.proofs.run_cases.Tie as tie
 
 abbrev Inv-loop : tie.InvT-loop
 Inv-loop fd counts₀ counts = Unit {0}
@@ -40,8 +40,8 @@ finish-requires c κs = search needs
 returns : tie.Need-returns Inv-loop μ-loop
 returns c = search needs
 
-pub main-spec : {M : Type 1} → statement M
-main-spec =
+pub run-cases-spec : {M : Type 1} → statement M
+run-cases-spec =
     tie.close
     (tie.spec
     Inv-loop
