@@ -132,19 +132,33 @@ pub fn schedule(seed: u32) -> [u8; SCHEDULE] {
 }
 
 // An argument, as a number.
-pub fn argument(i: usize) -> u64 {
+fn argument(i: usize) -> u64 {
     let mut text = [0u8; 16];
     let n = os::arg(i, &mut text);
     test_support::number(&text[..n])
 }
 
-// The seed that an argument gives, 1 to 4294967295. Another argument is told of, and 0.
-pub fn seed_argument(i: usize) -> u32 {
-    let given = argument(i);
+// The arguments of a benchmark: the row, how much work, and the seed, 0 where none is given.
+pub struct Arguments {
+    pub what: u64,
+    pub count: u64,
+    pub seed: u32,
+}
+
+// The seed of a number, 1 to 4294967295. Another number is told of, and 0.
+fn seed_of(given: u64) -> u32 {
     let seed = (given % 4294967296) as u32;
     if (seed == 0) | (seed as u64 != given) {
         print(b"a seed is 1 to 4294967295\n");
         return 0;
     }
     seed
+}
+
+pub fn read_arguments() -> Arguments {
+    Arguments {
+        what: argument(1),
+        count: argument(2),
+        seed: seed_of(argument(3)),
+    }
 }

@@ -3,7 +3,6 @@
 use base::CERTIFICATE_LENGTH;
 use base::IMAGE_LENGTH;
 use bench_programs::SCHEDULE;
-use bench_programs::argument;
 use bench_programs::program;
 use bench_programs::schedule;
 use bench_programs::tell;
@@ -82,13 +81,7 @@ fn tell_summaries(count: u64) {
     print(b"\n");
 }
 
-fn main() {
-    let what = argument(1);
-    let count = argument(2);
-    let seed = bench_programs::seed_argument(3);
-    if seed == 0 {
-        return;
-    }
+fn bench(what: u64, count: u64, seed: u32) {
     match what {
         0 => cover_rows(count, seed),
         4 => {}
@@ -96,5 +89,12 @@ fn main() {
     }
     if (what == 0) | (what == 4) {
         tell_summaries(count);
+    }
+}
+
+fn main() {
+    let a = bench_programs::read_arguments();
+    if a.seed != 0 {
+        bench(a.what, a.count, a.seed);
     }
 }

@@ -3,7 +3,7 @@
 use Prim.Native.Nat.{ℕ, zero, suc, _+_, _%_, _<_, _≤_}
 use mathlib.Core.Path.{_≡_, _∙_, refl, sym, ap, ap₂}
 use mathlib.Core.Logic.{_≢_, _⊎_, inl, inr, ⊎-elim}
-use mathlib.Core.Bool.{Bool, true, false, _&&_, _||_, or-false, or-true, false≢true}
+use mathlib.Core.Bool.{Bool, true, false, _&&_, _||_, or-false, or-true, and-eq-true-iff, false≢true}
 use mathlib.Core.List.{List}
 use native.Mathlib.Omega.{arith}
 use lib.ListN.{length}
@@ -48,17 +48,13 @@ some-has (suc n) f h =
     let l = r .1 in
     (r .0, omega (arith, l), r .2)) (case-bool (f n))
 
-both-true : (a b : Bool) → (a && b) ≡ true → (a ≡ true) × (b ≡ true)
-both-true true b h = (refl, h)
-both-true false b h = absurd (false≢true h)
-
 module _ (image : List ℕ) (s : State) (schedule : List ℕ) where
   -- what is reached, in both forms
   reaches : (a : ℕ) → reached image s schedule a ≡ true → Reaches image s schedule a
   unfolding reached beginsAt
   reaches a h =
       let r = some-has (completedSteps image s schedule) (beginsAt image s schedule a) h in
-      let q = both-true (actedOf image (stateBehind (r .0) image schedule 0 s) (recordAt schedule (r .0)) .retired) _ (r .2) in
+      let q = and-eq-true-iff (actedOf image (stateBehind (r .0) image schedule 0 s) (recordAt schedule (r .0)) .retired) _ .0 (r .2) in
       record {
         step = r .0;
         completed = r .1;
@@ -80,7 +76,7 @@ module _ (image : List ℕ) (s : State) (schedule : List ℕ) where
       let l = completes-place image (stateBehind (r .step) image schedule 0 s) (recordAt schedule (r .step)) (r .instruction) in
       pick-has (λ (n : ℕ). r .step < n → a < romLength) (isImageLength (length image) && eqb (length schedule % recordLength) 0) _ 0
       (λ h _.
-      let size = eqb-true (length image) romLength (both-true (isImageLength (length image)) _ h .0) in
+      let size = eqb-true (length image) romLength (and-eq-true-iff (isImageLength (length image)) _ .0 h .0) in
       omega (arith, e, l, size)) (λ _ f. absurd (omega (arith, f))) (r .completed)
 
   module _ (m : List ℕ) where

@@ -1,4 +1,4 @@
-// The machine: reset, one step under a schedule record, and a run over a schedule.
+// The machine: reset, one step under a schedule record, and a run over a schedule, with or without a coverage map.
 ghost use mathlib.Core.Path.{_≡_};
 ghost use Prim.Native.Nat.{_/_};
 ghost use lib.ListN.{length};

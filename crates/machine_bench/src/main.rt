@@ -3,7 +3,6 @@
 // `bench/run` times it and prints a table; the gate's run is short and compares what each program leaves.
 use base::IMAGE_LENGTH;
 use bench_programs::SCHEDULE;
-use bench_programs::argument;
 use bench_programs::make_part;
 use bench_programs::program;
 use bench_programs::schedule;
@@ -53,19 +52,20 @@ fn work_rows(rows: Rows, count: u64, seed: u32) {
     }
 }
 
-// 14 makes records.
-fn main() {
-    let what = argument(1);
-    let count = argument(2);
-    let seed = bench_programs::seed_argument(3);
-    if seed == 0 {
-        return;
-    }
+fn bench(what: u64, count: u64, seed: u32) {
     if what != 14 {
         work_rows(test_support::rows_of(what, 13), count, seed);
     }
     if (what == 0) | (what == 14) {
         print_number(make_parts(seed, count) as u64);
         print(b"\n");
+    }
+}
+
+// 14 makes records.
+fn main() {
+    let a = bench_programs::read_arguments();
+    if a.seed != 0 {
+        bench(a.what, a.count, a.seed);
     }
 }

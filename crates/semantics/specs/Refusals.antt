@@ -1,4 +1,4 @@
--- A step or a run is refused by 7 or 10 to 14; a refused step leaves the state before it.
+-- A step or a run is refused by 7 or 10 to 14, by 7 only for a wrong length; a refused step leaves the state before it.
 -- Assumes nothing.
 use Prim.Native.Nat.{ℕ, zero, suc, _+_, _/_, _%_, _≤_}
 use mathlib.Core.Path.{_≡_, refl}
