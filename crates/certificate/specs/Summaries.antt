@@ -1,7 +1,7 @@
 -- The effect summary of an action and of the flags that the decoder named beside it: what it may store, read and change, and where control goes. The
 -- checker's rules read nothing else of an instruction but its cost and the address behind it; `safety` proves each action against its summary.
 -- Assumes nothing.
-use Prim.Native.Nat.{_-_}
+use Prim.Native.Nat.{ℕ, _-_}
 use mathlib.Core.Bool.{Bool, true, false}
 use lib.Dec.{eqb, ltb}
 use Rattle.base.specs.Addresses.{romAddr, spCell}
@@ -16,7 +16,8 @@ use Rattle.action.specs.declared.Operand.{Operand}
 use Rattle.action.specs.declared.CodeAddress.{CodeAddress}
 use Rattle.action.specs.declared.Action.{Action}
 use Rattle.certificate.specs.declared.NewValue.{NewValue}
-use Rattle.certificate.specs.declared.NewValue.the-variants.{Number, OneMore, OneLess, AtMost, CopyOf, Unknown}
+use Rattle.certificate.specs.declared.NewValue.the-variants.{Number, OneMore, OneLess, Within, CopyOf, Unknown}
+use Rattle.certificate.specs.declared.Range.{Range}
 use Rattle.certificate.specs.declared.Write.{Write}
 use Rattle.certificate.specs.declared.Access.{Access}
 use Rattle.certificate.specs.declared.CodeAccess.{CodeAccess}
@@ -40,6 +41,9 @@ abbrev pub reading : Operand → Access
 reading (Operand.Register a) = Access.Register a
 reading (Operand.Indirect p x) = Access.Pointed p x
 reading (Operand.Immediate n) = Access.Nothing
+
+abbrev pub range : ℕ → ℕ → Range
+range l h = record { least = l; greatest = h }
 
 -- control goes behind the instruction
 abbrev pub onward : Flow
@@ -87,7 +91,7 @@ into (Operand.Immediate n) S = forbidden
 
 -- AND with a number gives at most that number
 abbrev pub binaryValue : Alu → Operand → NewValue
-binaryValue And (Operand.Immediate n) = AtMost n
+binaryValue And (Operand.Immediate n) = Within (range 0 n)
 binaryValue And (Operand.Register a) = Unknown
 binaryValue And (Operand.Indirect p x) = Unknown
 binaryValue Add s = Unknown
@@ -158,27 +162,28 @@ abbrev pub switching : Bool → Control
 switching true = Enable
 switching false = Disable
 
--- of an action that names the flags n, f being its flag effect; an operation on two bytes works out its own, since CP leaves a compare
-abbrev pub summaryWith : Action → FlagSet → FlagEffect → Summary
-summaryWith (Action.Binary op d s) n f = into d (binarySummary (stores op) op d s n)
-summaryWith (Action.Modify op d) n f = into d (moving (writeTo d (modifyValue op)) Access.Nothing Access.Nothing f Same)
-summaryWith (Action.Load d s) n f = loadSummary d s f
-summaryWith (Action.Push s) n f = moving Write.Nothing Access.Nothing (reading s) f Push
-summaryWith (Action.Pop d) n f = into d (moving (writeTo d Unknown) Access.Nothing Access.Nothing f Pop)
-summaryWith (Action.LoadCode d c) n f = reaching (Write.Register d Unknown) (codeAccess c) f
-summaryWith (Action.LoadCodeStep d p up) n f = reaching (Write.RegisterAndPair d p) (CodeAccess.Pair p 0 0) f
-summaryWith Action.External n f = forbidden
-summaryWith (Action.Jump cc to) n f = controlling f Control.Nothing (Step cc to)
-summaryWith (Action.JumpPair p) n f = forbidden
-summaryWith (Action.Call to) n f = controlling f Control.Nothing (Call to)
-summaryWith (Action.CallPair p) n f = forbidden
-summaryWith Action.Return n f = controlling f Control.Nothing Return
-summaryWith Action.InterruptReturn n f = controlling f Control.Nothing InterruptReturn
-summaryWith (Action.Carry c) n f = controlling f Control.Nothing onward
-summaryWith (Action.Interrupts on) n f = controlling f (switching on) onward
-summaryWith Action.Idle n f = controlling f Wait onward
-summaryWith Action.Stop n f = forbidden
-summaryWith Action.Nop n f = controlling f Control.Nothing onward
+-- of an action that names the flags n, f being its flag effect; an operation on two bytes works out its own, since CP leaves a compare. load gives the
+-- range of the bytes that LDC, LDCI and LDCD can load
+abbrev pub summaryWith : (CodeAccess → Range) → Action → FlagSet → FlagEffect → Summary
+summaryWith load (Action.Binary op d s) n f = into d (binarySummary (stores op) op d s n)
+summaryWith load (Action.Modify op d) n f = into d (moving (writeTo d (modifyValue op)) Access.Nothing Access.Nothing f Same)
+summaryWith load (Action.Load d s) n f = loadSummary d s f
+summaryWith load (Action.Push s) n f = moving Write.Nothing Access.Nothing (reading s) f Push
+summaryWith load (Action.Pop d) n f = into d (moving (writeTo d Unknown) Access.Nothing Access.Nothing f Pop)
+summaryWith load (Action.LoadCode d c) n f = reaching (Write.Register d (Within (load (codeAccess c)))) (codeAccess c) f
+summaryWith load (Action.LoadCodeStep d p up) n f = reaching (Write.RegisterAndPair d (load (CodeAccess.Pair p 0 0)) p) (CodeAccess.Pair p 0 0) f
+summaryWith load Action.External n f = forbidden
+summaryWith load (Action.Jump cc to) n f = controlling f Control.Nothing (Step cc to)
+summaryWith load (Action.JumpPair p) n f = forbidden
+summaryWith load (Action.Call to) n f = controlling f Control.Nothing (Call to)
+summaryWith load (Action.CallPair p) n f = forbidden
+summaryWith load Action.Return n f = controlling f Control.Nothing Return
+summaryWith load Action.InterruptReturn n f = controlling f Control.Nothing InterruptReturn
+summaryWith load (Action.Carry c) n f = controlling f Control.Nothing onward
+summaryWith load (Action.Interrupts on) n f = controlling f (switching on) onward
+summaryWith load Action.Idle n f = controlling f Wait onward
+summaryWith load Action.Stop n f = forbidden
+summaryWith load Action.Nop n f = controlling f Control.Nothing onward
 
-unfoldable pub summaryOf : Action → FlagSet → Summary
-summaryOf act n = summaryWith act n (flagEffect n Changed)
+unfoldable pub summaryOf : (CodeAccess → Range) → Action → FlagSet → Summary
+summaryOf load act n = summaryWith load act n (flagEffect n Changed)

@@ -2,23 +2,30 @@
 use base::RegAddr;
 use base::RomAddr;
 
-// What is known of a byte that an instruction stores: a number, one more or one less than the cell held, at most a number, what a register held,
-// or nothing.
+// From one byte to another, both included.
+pub struct Range {
+    pub least: u8,
+    pub greatest: u8,
+}
+
+// What is known of a byte that an instruction stores: a number, one more or one less than the cell held, a range, what a register held, or
+// nothing.
 pub enum NewValue {
     Number(u8),
     OneMore,
     OneLess,
-    AtMost(u8),
+    Within(Range),
     CopyOf(RegAddr),
     Unknown,
 }
 
-// The cells that an instruction may store to: none; a register; where a pointer, plus an offset, points; a register and both halves of a pair.
+// The cells that an instruction may store to: none; a register; where a pointer, plus an offset, points; a register, a byte of a range, and then
+// both halves of a pair.
 pub enum Write {
     Nothing,
     Register(RegAddr, NewValue),
     Pointed(RegAddr, u8),
-    RegisterAndPair(RegAddr, RegAddr),
+    RegisterAndPair(RegAddr, Range, RegAddr),
 }
 
 // An operand that is only read: none; a register; where a pointer, plus an offset, points.

@@ -16,7 +16,7 @@ use Rattle.certificate.specs.declared.Verdict.{Verdict}
 use Rattle.certificate.specs.declared.Verdict.the-variants.{Accepted, Refused}
 use Rattle.certificate.specs.Layout.{Certificate, certificateOf}
 use Rattle.safety.specs.Rules.{rule20, rule21, rule22, rule23, rule24, rule25, rule26, rule27}
-use Rattle.safety.specs.Verdicts.{rulesOn, firstBroken, numberAt, scan, verdictOn, verdictOf, Exact}
+use Rattle.safety.specs.Verdicts.{rulesWith, rulesOn, firstBroken, numberAt, scanBy, scan, verdictOnBy, verdictBy, verdictOf, Exact}
 use Rattle.safety.specs.Statement.{Demand3}
 use Rattle.safety.specs.Accepted.{never-refused}
 use Rattle.safety.specs.Exact.{exact}
@@ -29,32 +29,32 @@ turn a h = omega arith
 
 module _ (C : Certificate) (image : List ℕ) (a : ℕ) (h : a < romLength) where
   pub scan-on : numberAt C image a ≡ 0 → scan C image (romLength - a) a ≡ scan C image (romLength - (a + 1)) (a + 1)
-  unfolding scan
-  scan-on z = ap (λ (n : ℕ). scan C image n a) (turn a h) ∙ rw (scan, eq-eqb (numberAt C image a) 0 z)
+  unfolding scanBy
+  scan-on z = ap (λ (n : ℕ). scan C image n a) (turn a h) ∙ rw (scanBy, eq-eqb (numberAt C image a) 0 z)
 
   pub scan-stop : (numberAt C image a ≡ 0 → ⊥) → scan C image (romLength - a) a ≡ Refused (numberAt C image a) (romAddr a)
-  unfolding scan
-  scan-stop z = ap (λ (n : ℕ). scan C image n a) (turn a h) ∙ rw (scan, ne-eqb (numberAt C image a) 0 z)
+  unfolding scanBy
+  scan-stop z = ap (λ (n : ℕ). scan C image n a) (turn a h) ∙ rw (scanBy, ne-eqb (numberAt C image a) 0 z)
 
 module _ (image cert : List ℕ) where
   pub image-length : isImageLength (length image) ≡ false → Refused 7 (romAddr 0) ≡ verdictOf image cert
-  unfolding verdictOf
-  image-length n = rw (verdictOf, n)
+  unfolding verdictBy
+  image-length n = rw (verdictBy, n)
 
   pub certificate-length : isImageLength (length image) ≡ true → isCertificateLength (length cert) ≡ false
       → Refused 7 (romAddr 0) ≡ verdictOf image cert
-  unfolding verdictOf
-  certificate-length e n = rw (verdictOf, e, n)
+  unfolding verdictBy
+  certificate-length e n = rw (verdictBy, e, n)
 
   module _ (e : isImageLength (length image) ≡ true) (k : isCertificateLength (length cert) ≡ true) where
     pub layout-broken : decide (rule20 (certificateOf cert) image) ≡ false → Refused 20 (romAddr 0) ≡ verdictOf image cert
-    unfolding verdictOf verdictOn
-    layout-broken d = rw (verdictOf, e, k, verdictOn, d)
+    unfolding verdictBy verdictOnBy
+    layout-broken d = rw (verdictBy, e, k, verdictOnBy, d)
 
     pub layout-holds : decide (rule20 (certificateOf cert) image) ≡ true
         → scan (certificateOf cert) image romLength 0 ≡ verdictOf image cert
-    unfolding verdictOf verdictOn
-    layout-holds d = rw (verdictOf, e, k, verdictOn, d)
+    unfolding verdictBy verdictOnBy
+    layout-holds d = rw (verdictBy, e, k, verdictOnBy, d)
 
 -- the rules' values in place of the rules
 abbrev pub holdingOf : Certificate → ℕ → Summary → ℕ → ℕ → Holding
@@ -70,7 +70,7 @@ holdingOf C a S next cost = record {
 
 pub first-by-value : (C : Certificate) (a : ℕ) (S : Summary) (next cost : ℕ)
     → firstBroken (tested (holdingOf C a S next cost)) ≡ firstBroken (rulesOn C a S next cost)
-unfolding tested rulesOn firstBroken
+unfolding tested rulesWith firstBroken
 first-by-value C a S next cost = refl
 
 -- what `check` promises of a verdict

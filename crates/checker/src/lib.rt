@@ -60,7 +60,7 @@ fn first_broken(cert: &[u8], a: RomAddr, s: Summary, cost: u8, next: RomAddr) ->
 fn number_in(image: &[u8], cert: &[u8], a: RomAddr) -> u8
     ensures { λ r. ⌜ r ≡ firstBroken (rulesAt (certificateOf (now (cert .entry))) (now (image .entry)) (a .0)) ⌝ }
 {
-    let i = located::instruction_at(image, a);
+    let i = located::instruction_at(image, cert, a);
     let s = i.summary;
     first_broken(cert, a, s, located::cost_at(image, a), i.next)
 }

@@ -1,7 +1,7 @@
 // Ranges, values left on an edge, changes of cells and bounds: what several rules read of an entry. A contract over an entry n speaks of every
 // address, of any certificate, whose entry is n.
 ghost use mathlib.Core.Path.{_≡_};
-ghost use Prim.Native.Nat.{ℕ, _-_};
+ghost use Prim.Native.Nat.{ℕ, _+_, _-_};
 ghost use mathlib.Core.Bool.{true, false};
 ghost use Rattle.base.specs.Choice.{pick};
 ghost use Rattle.base.specs.Formula.{decide};
@@ -13,6 +13,7 @@ ghost use Rattle.claims.specs.Bounds.{distanceFrom, boundFrom, worstFrom
 use base::RegAddr;
 use base::RomAddr;
 use certificate::NewValue;
+use certificate::Range;
 use certificate::Write;
 use entries::Entry;
 use entries::NO_CELL;
@@ -63,6 +64,25 @@ pub fn high_in(n: Entry, x: RegAddr) -> u8
         return n.second.high;
     }
     255
+}
+
+// The range of the cell behind p, the low half of a pair; behind FFH stands none, and 0 to 255 counts.
+pub fn second_low(n: Entry, p: RegAddr) -> u8
+    ensures { λ r. ⌜ ((C : Certificate) (a : ℕ) → n ≡ entryOf C a → r ≡ Rattle.safety.specs.Rules.low C a (p .0 + 1)) ⌝ }
+{
+    if p.0 == 255 {
+        return 0;
+    }
+    low_in(n, RegAddr(p.0 + 1))
+}
+
+pub fn second_high(n: Entry, p: RegAddr) -> u8
+    ensures { λ r. ⌜ ((C : Certificate) (a : ℕ) → n ≡ entryOf C a → r ≡ Rattle.safety.specs.Rules.high C a (p .0 + 1)) ⌝ }
+{
+    if p.0 == 255 {
+        return 255;
+    }
+    high_in(n, RegAddr(p.0 + 1))
 }
 
 pub fn claimed_in(n: Entry, x: RegAddr) -> bool
@@ -216,6 +236,16 @@ fn pointed_at(n: Entry, p: RegAddr, o: u8, x: RegAddr) -> bool
     (from <= at) & (at <= upto)
 }
 
+// What a write to register y, a byte of q, and then to both halves of pair p may leave in cell x: the pair is known of no cell.
+fn pair_change(y: RegAddr, q: Range, p: RegAddr, x: RegAddr) -> Change
+    ensures { λ r. ⌜ ((C : Certificate) (a : ℕ) → changeIn r ≡ changeOf C a (Write.RegisterAndPair y q p) (x .0)) ⌝ }
+{
+    if (x.0 == p.0) | (x.0 as u16 == p.0 as u16 + 1) {
+        return Change::Changed(NewValue::Unknown);
+    }
+    changed_if(x.0 == y.0, NewValue::Within(q))
+}
+
 // What a write at entry n may leave in cell x.
 pub fn change_of(n: Entry, w: Write, x: RegAddr) -> Change
     ensures { λ r. ⌜ ((C : Certificate) (a : ℕ) → n ≡ entryOf C a → changeIn r ≡ changeOf C a w (x .0)) ⌝ }
@@ -224,10 +254,7 @@ pub fn change_of(n: Entry, w: Write, x: RegAddr) -> Change
         Write::Nothing => Change::Unchanged,
         Write::Register(y, v) => changed_if(x.0 == y.0, v),
         Write::Pointed(p, o) => changed_if(pointed_at(n, p, o, x), NewValue::Unknown),
-        Write::RegisterAndPair(y, p) => changed_if(
-            (x.0 == y.0) | (x.0 == p.0) | (x.0 as u16 == p.0 as u16 + 1),
-            NewValue::Unknown,
-        ),
+        Write::RegisterAndPair(y, q, p) => pair_change(y, q, p, x),
     }
 }
 

@@ -1,13 +1,14 @@
 -- The requests of document 02 that have landed, word for word, with what each states as a theorem over the definitions.
 -- Assumes nothing.
-use Prim.Native.Nat.{ℕ, _+_, _-_, _/_, _%_, _^_, _≤_, _<_}
+use Prim.Native.Nat.{ℕ, _+_, _-_, _*_, _/_, _%_, _^_, _≤_, _<_}
 use mathlib.Core.Path.{_≡_}
-use mathlib.Core.Bool.{true, false, _||_}
-use mathlib.Core.Logic.{_⊎_}
+use mathlib.Core.Bool.{Bool, true, false, _||_}
+use mathlib.Core.Logic.{_≢_, _⊎_}
 use mathlib.Core.List.{List, [], _∷_, _++_}
 use native.Mathlib.Omega.{arith}
 use lib.Bits.{bitAnd}
 use lib.ListN.{length, getD}
+use Rattle.base.specs.declared.RegAddr.{RegAddr}
 use Rattle.base.specs.declared.RomAddr.{RomAddr}
 use Rattle.base.specs.Addresses.{flagsCell, romAddr}
 use Rattle.base.specs.Cells.{Bytes}
@@ -27,6 +28,8 @@ use Rattle.decode.specs.Decode.{decodeAt, withoutFlags}
 use Rattle.decode.specs.Names as names
 use Rattle.instruction_bytes.specs.Bytes.{bytesOf}
 use Rattle.roundtrip.specs.EncodedDecodes.{encoded-decodes}
+use Rattle.action.specs.declared.CodeAddress.{CodeAddress}
+use Rattle.action.specs.declared.Action.{Action}
 use Rattle.action.specs.Action.{actionOf}
 use Rattle.chip.specs.Registers.{storeOf}
 use Rattle.semantics.specs.Operands.{withFlags}
@@ -38,15 +41,26 @@ use Rattle.coverage.specs.MapLaws.{Words, same-marks, marked-joined, marked-pas
 use Rattle.machine.specs.Reached.{reached, coveredRun, coveredMap}
 use Rattle.machine.specs.CoveredLaws.{Reaches, mark-stays, completed-marked, no-other-mark, covered-joins, covered-count}
 use Rattle.machine.specs.AppendLaws.{run-in-turn, run-stopped, covered-in-turn, covered-stopped}
+use Rattle.certificate.specs.declared.NewValue.the-variants.{Within, Unknown}
+use Rattle.certificate.specs.declared.CodeAccess.{CodeAccess}
 use Rattle.certificate.specs.declared.Flow.the-variants.{Step, Call}
+use Rattle.certificate.specs.declared.Verdict.the-variants as verdict
 use Rattle.certificate.specs.Layout.{Certificate, certificateOf}
-use Rattle.safety.specs.Rules.{noCell, Edge, edge26, rule26}
-use Rattle.safety.specs.Verdicts.{summaryAt}
+use Rattle.certificate.specs.Summaries.{range, codeAccess}
+use Rattle.safety.specs.Rules.{noCell, ramEnd, Edge, low, high, codeInRom, changeOf, edge26, rule26}
+use Rattle.safety.specs.Rules.Change.{changed}
+use Rattle.safety.specs.CodeRange.{loaded}
+use Rattle.safety.specs.CodeRangeLaws.{Reaches as CodeReaches, ReachedByte, reached-in-rom, whole-set-in-rom, unclaimed, loaded-holds, loaded-least, loaded-greatest, loaded-direct}
+use Rattle.safety.specs.CodeLoads.{destination-of-load, destination-of-step, pair-of-step}
+use Rattle.safety.specs.Verdicts.{summaryAt, verdictOf}
+use Rattle.safety.specs.Formerly as formerly
+use Rattle.safety.specs.Formerly.{verdictFormerly}
 use Rattle.safety.specs.Statement.{Schedule}
 use Rattle.flag_names.specs.Stores.{storesFlags}
 use Rattle.flag_names.specs.Kept.{flagsIn, unnamed-kept, iret-named, iret-loads}
 use Rattle.flag_names.specs.Witnesses.{ChangedBy, named-changed}
 use Rattle.flag_names.specs.Compares.{EdgeFollows, CallFollows, compare-survives, compare-over-call, none-behind-call}
+use Rattle.logger_cases.specs.Linearised as linearised
 use Rattle.uncovered.specs.declared.Lowest.the-variants.{At, AllMarked, Refused}
 use Rattle.uncovered.specs.Lowest.{lowestOf, LowestStart}
 use Rattle.uncovered.specs.LowestLaws.{lowest-at, at-lowest, all-marked, marked-all, lowest-refused, refused-length}
@@ -212,22 +226,22 @@ pub iret-loads-flags : (regs : List ℕ) (x : ℕ) → x < 256 → withFlags reg
 iret-loads-flags = iret-loads
 
 -- behind a CALL a compare never holds
-pub no-compare-behind-call : (C : Certificate) (image : List ℕ) (a next : ℕ) (to : RomAddr) → summaryAt image a .flow ≡ Call to
-    → Holds (rule26 C a (summaryAt image a) next) → C .compareCell next ≡ noCell
+pub no-compare-behind-call : (C : Certificate) (image : List ℕ) (a next : ℕ) (to : RomAddr) → summaryAt C image a .flow ≡ Call to
+    → Holds (rule26 C a (summaryAt C image a) next) → C .compareCell next ≡ noCell
 no-compare-behind-call = none-behind-call
 
 -- elsewhere it survives exactly the instructions that name no flag and cannot write its cell, by the rule's own `changeOf` (`Survives`): rule 26 says of an
 -- edge that is not skipped that the claims follow and that a compare at its end is made by this very CP or survives, and no more
 pub compare-survives-exactly : (C : Certificate) (image : List ℕ) (a : ℕ) (d : Instruction × ℕ × FlagSet) → Bytes image → decodeAt image a ≡ value d
-    → (cc : ℕ) (to : RomAddr) → summaryAt image a .flow ≡ Step cc to → (e : Edge)
-    → (Holds (edge26 C a (summaryAt image a) e) → EdgeFollows C image a d e) × (EdgeFollows C image a d e → Holds (edge26 C a (summaryAt image a) e))
+    → (cc : ℕ) (to : RomAddr) → summaryAt C image a .flow ≡ Step cc to → (e : Edge)
+    → (Holds (edge26 C a (summaryAt C image a) e) → EdgeFollows C image a d e) × (EdgeFollows C image a d e → Holds (edge26 C a (summaryAt C image a) e))
 compare-survives-exactly = compare-survives
 
 -- rule 26 of a CALL says that the claims follow, that there is no compare behind it, and that one at the start that it goes to survives the CALL
 pub compare-over-call-exactly : (C : Certificate) (image : List ℕ) (a : ℕ) (d : Instruction × ℕ × FlagSet) → Bytes image → decodeAt image a ≡ value d
-    → (next : ℕ) (to : RomAddr) → summaryAt image a .flow ≡ Call to
-    → (Holds (rule26 C a (summaryAt image a) next) → CallFollows C image a d next (to .0))
-    × (CallFollows C image a d next (to .0) → Holds (rule26 C a (summaryAt image a) next))
+    → (next : ℕ) (to : RomAddr) → summaryAt C image a .flow ≡ Call to
+    → (Holds (rule26 C a (summaryAt C image a) next) → CallFollows C image a d next (to .0))
+    × (CallFollows C image a d next (to .0) → Holds (rule26 C a (summaryAt C image a) next))
 compare-over-call-exactly = compare-over-call
 
 -- Request 12. A load anybody can repeat. Two benches want to compare long runs without sending files. Schedules are made by Marsaglia's 32-bit xorshift
@@ -329,3 +343,70 @@ pub refused-before : (reader : Reader) (size : ℕ) → bufferLength size ≡ tr
 refused-before = upper.refused-before
 
 -- `:00000001ff` becomes the end line: `end-line-converted` of `hex_upper`
+
+-- Request 14. Ranges over a whole ROM table. Our linearising tables hold pointers that are small by construction, yet an LDC into R4 counts as 0 to 255.
+-- LDC, LDCI and LDCD are to give their destination the least and greatest of all ROM bytes that the claims on both halves of the pair, with the offset
+-- unwrapped, let them reach, for the whole set together. A half without a claim counts as 0 to 255; a direct address reaches its one byte. For LDCI and
+-- LDCD the pair itself counts as 0 to 255 afterwards, and so does a destination that belongs to the pair. 24 tests this same set in place of the high
+-- half alone. An old certificate that was accepted stays accepted --
+
+-- `CodeReaches C a c t` (`Reaches` of S`CodeRangeLaws`) says that t is in the set: 256 × h + l + offset, h and l over the ranges of both halves at a (`low`, `high`). `loaded` is the range. Where
+-- 24 holds every byte that is reached lies in it
+pub reached-byte-in-range : (C : Certificate) (image : List ℕ) (a : ℕ) → length image ≡ romLength → (c : CodeAccess) → Holds (codeInRom C a c)
+    → (t : ℕ) → CodeReaches C a c t → (loaded C image a c .least ≤ getD image t 0) × (getD image t 0 ≤ loaded C image a c .greatest)
+reached-byte-in-range = loaded-holds
+
+-- and both its ends are bytes that are reached, so they are the least and the greatest
+pub range-ends-reached : (C : Certificate) (image : List ℕ) (a : ℕ) → length image ≡ romLength → Bytes image → (c : CodeAccess) → Holds (codeInRom C a c)
+    → (t : ℕ) → CodeReaches C a c t → ReachedByte C image a c (loaded C image a c .least) × ReachedByte C image a c (loaded C image a c .greatest)
+range-ends-reached C image a full bytes c h t r = (loaded-least C image a full bytes c h t r, loaded-greatest C image a full bytes c h t r)
+
+-- a half without a claim counts as 0 to 255
+pub half-without-claim : (C : Certificate) (a x : ℕ) → x ≢ C .firstCell a → x ≢ C .secondCell a → (low C a x ≡ 0) × (high C a x ≡ 255)
+half-without-claim = unclaimed
+
+-- a direct address reaches its one byte
+pub direct-address : (C : Certificate) (image : List ℕ) (a : ℕ) → length image ≡ romLength → Bytes image → (t : RomAddr) → t .0 < romLength
+    → loaded C image a (CodeAccess.Direct t) ≡ range (getD image (t .0) 0) (getD image (t .0) 0)
+direct-address = loaded-direct
+
+-- the destination of LDC gets that range: rule 26 goes by `changeOf`
+pub destination-ranged : (C : Certificate) (image : List ℕ) (a : ℕ) (d : Instruction × ℕ × FlagSet) → decodeAt image a ≡ value d
+    → (r : RegAddr) (c : CodeAddress) → actionOf (d .0) (romAddr ((a + d .1) % 65536)) ≡ Action.LoadCode r c
+    → changeOf C a (summaryAt C image a .write) (r .0) ≡ changed (Within (loaded C image a (codeAccess c)))
+destination-ranged = destination-of-load
+
+-- of LDCI and LDCD too, unless it belongs to the pair
+pub stepped-destination-ranged : (C : Certificate) (image : List ℕ) (a : ℕ) (d : Instruction × ℕ × FlagSet) → decodeAt image a ≡ value d
+    → (r p : RegAddr) (up : Bool) → actionOf (d .0) (romAddr ((a + d .1) % 65536)) ≡ Action.LoadCodeStep r p up → r .0 ≢ p .0 → r .0 ≢ p .0 + 1
+    → changeOf C a (summaryAt C image a .write) (r .0) ≡ changed (Within (loaded C image a (CodeAccess.Pair p 0 0)))
+stepped-destination-ranged = destination-of-step
+
+-- both halves of the pair, and so a destination that is one of them, count as 0 to 255 afterwards
+pub stepped-pair-unknown : (C : Certificate) (image : List ℕ) (a : ℕ) (d : Instruction × ℕ × FlagSet) → decodeAt image a ≡ value d
+    → (r p : RegAddr) (up : Bool) → actionOf (d .0) (romAddr ((a + d .1) % 65536)) ≡ Action.LoadCodeStep r p up → (x : ℕ) → (x ≡ p .0) ⊎ (x ≡ p .0 + 1)
+    → changeOf C a (summaryAt C image a .write) x ≡ changed Unknown
+stepped-pair-unknown = pair-of-step
+
+-- 24 tests this same set: where it holds, all of it lies in ROM
+pub set-lies-in-rom : (C : Certificate) (a : ℕ) (c : CodeAccess) → Holds (codeInRom C a c) → (t : ℕ) → CodeReaches C a c t → t < romLength
+set-lies-in-rom = reached-in-rom
+
+-- and where all of it lies in ROM, it holds. The pairs are working registers, and down is at most 128
+pub rom-holds-the-set : (C : Certificate) (a : ℕ) (p : RegAddr) (up down : ℕ) → p .0 < ramEnd → down < 256
+    → low C a (p .0) ≤ high C a (p .0) → low C a (p .0 + 1) ≤ high C a (p .0 + 1)
+    → ((h l : ℕ) → low C a (p .0) ≤ h → h ≤ high C a (p .0) → low C a (p .0 + 1) ≤ l → l ≤ high C a (p .0 + 1)
+    → (down ≤ h * 256 + l + up) × (h * 256 + l + up < romLength + down))
+    → Holds (codeInRom C a (CodeAccess.Pair p up down))
+rom-holds-the-set = whole-set-in-rom
+
+-- an old certificate that was accepted stays accepted; `verdictFormerly` is the verdict as it was
+pub still-accepted : (image cert : List ℕ) → Bytes image → Bytes cert → verdictFormerly image cert ≡ verdict.Accepted → verdictOf image cert ≡ verdict.Accepted
+still-accepted = formerly.still-accepted
+
+-- a program whose pointer comes from a table in ROM is accepted, and was not. With one byte of the table too large it is refused; `overlong-breaks` of
+-- `refused_programs` shows that demand 3 is false of it
+pub table-accepted : (verdictOf (linearised.imageWith 6) linearised.certificate ≡ verdict.Accepted)
+    × (verdictFormerly (linearised.imageWith 6) linearised.certificate ≡ verdict.Refused 26 (romAddr 0x10B))
+    × (verdictOf (linearised.imageWith 0x10) linearised.certificate ≡ verdict.Refused 26 (romAddr 0x10B))
+table-accepted = (linearised.linearised-accepted, linearised.linearised-formerly, linearised.overlong-refused)

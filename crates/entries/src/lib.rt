@@ -86,7 +86,7 @@ fn word_at(s: &[u8], i: usize) -> u16
 }
 
 // The w bytes from i on, or as many as there are.
-fn piece(b: &[u8], i: usize, w: usize) -> &[u8]
+pub fn piece(b: &[u8], i: usize, w: usize) -> &[u8]
     ensures { λ r. ⌜ now r ≡ take w (drop i (now (b .entry))) ⌝ }
 {
     let n = b.len();

@@ -35,6 +35,8 @@ use Rattle.action.specs.declared.Operand.the-variants.{Register, Indirect, Imme
 use Rattle.action.specs.declared.Action.{Action}
 use Rattle.action.specs.Action.{actionOf}
 use Rattle.certificate.specs.declared.Write.{Write}
+use Rattle.certificate.specs.declared.Range.{Range}
+use Rattle.certificate.specs.declared.CodeAccess.{CodeAccess}
 use Rattle.certificate.specs.declared.FlagEffect.{FlagEffect}
 use Rattle.certificate.specs.declared.FlagEffect.the-variants.{Kept, Changed, Compared}
 use Rattle.certificate.specs.declared.Flow.{Flow}
@@ -46,6 +48,7 @@ use Rattle.safety.specs.Rules.{noCell, present, Edge, plainEdge, feasible, call
 use Rattle.safety.specs.Invariant.{Shaped}
 use Rattle.safety.specs.DecodedShape.{decoded-shaped}
 use Rattle.safety.specs.Transfers.{is-call}
+use Rattle.safety.specs.CodeRange.{loaded}
 use Rattle.safety.specs.Verdicts.{summaryFrom, summaryAt}
 
 some-or-none : (b : ℕ) → b < 256
@@ -111,39 +114,39 @@ Stays Return = ⊥
 Stays InterruptReturn = ⊥
 Stays Forbidden = ⊥
 
-left-by : (act : Action) (ns : FlagSet) → Stays (summaryOf act ns .flow) → LeftBy act ns (summaryOf act ns .flags)
+left-by : (load : CodeAccess → Range) (act : Action) (ns : FlagSet) → Stays (summaryOf load act ns .flow) → LeftBy act ns (summaryOf load act ns .flags)
 unfolding summaryOf
-left-by (Action.Binary op (Register x) s) ns h = binary-left (stores op) op (Register x) s ns
-left-by (Action.Binary op (Indirect p o) s) ns h = binary-left (stores op) op (Indirect p o) s ns
-left-by (Action.Binary op (Immediate n) s) ns h = absurd h
-left-by (Action.Modify op (Register x)) ns h = changed-by _ ns
-left-by (Action.Modify op (Indirect p o)) ns h = changed-by _ ns
-left-by (Action.Modify op (Immediate n)) ns h = absurd h
-left-by (Action.Load (Register x) (Register y)) ns h = changed-by _ ns
-left-by (Action.Load (Register x) (Indirect p o)) ns h = changed-by _ ns
-left-by (Action.Load (Register x) (Immediate n)) ns h =
+left-by load (Action.Binary op (Register x) s) ns h = binary-left (stores op) op (Register x) s ns
+left-by load (Action.Binary op (Indirect p o) s) ns h = binary-left (stores op) op (Indirect p o) s ns
+left-by load (Action.Binary op (Immediate n) s) ns h = absurd h
+left-by load (Action.Modify op (Register x)) ns h = changed-by _ ns
+left-by load (Action.Modify op (Indirect p o)) ns h = changed-by _ ns
+left-by load (Action.Modify op (Immediate n)) ns h = absurd h
+left-by load (Action.Load (Register x) (Register y)) ns h = changed-by _ ns
+left-by load (Action.Load (Register x) (Indirect p o)) ns h = changed-by _ ns
+left-by load (Action.Load (Register x) (Immediate n)) ns h =
     pick-has (λ (S : Summary). LeftBy (Action.Load (Register x) (Immediate n)) ns (S .flags)) (eqb (x .0) spCell) _ _
     (λ _. changed-by _ ns) (λ _. changed-by _ ns)
-left-by (Action.Load (Indirect p o) s) ns h = changed-by _ ns
-left-by (Action.Load (Immediate n) s) ns h = absurd h
-left-by (Action.Push s) ns h = changed-by _ ns
-left-by (Action.Pop (Register x)) ns h = changed-by _ ns
-left-by (Action.Pop (Indirect p o)) ns h = changed-by _ ns
-left-by (Action.Pop (Immediate n)) ns h = absurd h
-left-by (Action.LoadCode d c) ns h = changed-by _ ns
-left-by (Action.LoadCodeStep d p up) ns h = changed-by _ ns
-left-by Action.External ns h = absurd h
-left-by (Action.Jump cc to) ns h = changed-by _ ns
-left-by (Action.JumpPair p) ns h = absurd h
-left-by (Action.Call to) ns h = changed-by _ ns
-left-by (Action.CallPair p) ns h = absurd h
-left-by Action.Return ns h = absurd h
-left-by Action.InterruptReturn ns h = absurd h
-left-by (Action.Carry c) ns h = changed-by _ ns
-left-by (Action.Interrupts on) ns h = changed-by _ ns
-left-by Action.Idle ns h = changed-by _ ns
-left-by Action.Stop ns h = absurd h
-left-by Action.Nop ns h = changed-by _ ns
+left-by load (Action.Load (Indirect p o) s) ns h = changed-by _ ns
+left-by load (Action.Load (Immediate n) s) ns h = absurd h
+left-by load (Action.Push s) ns h = changed-by _ ns
+left-by load (Action.Pop (Register x)) ns h = changed-by _ ns
+left-by load (Action.Pop (Indirect p o)) ns h = changed-by _ ns
+left-by load (Action.Pop (Immediate n)) ns h = absurd h
+left-by load (Action.LoadCode d c) ns h = changed-by _ ns
+left-by load (Action.LoadCodeStep d p up) ns h = changed-by _ ns
+left-by load Action.External ns h = absurd h
+left-by load (Action.Jump cc to) ns h = changed-by _ ns
+left-by load (Action.JumpPair p) ns h = absurd h
+left-by load (Action.Call to) ns h = changed-by _ ns
+left-by load (Action.CallPair p) ns h = absurd h
+left-by load Action.Return ns h = absurd h
+left-by load Action.InterruptReturn ns h = absurd h
+left-by load (Action.Carry c) ns h = changed-by _ ns
+left-by load (Action.Interrupts on) ns h = changed-by _ ns
+left-by load Action.Idle ns h = changed-by _ ns
+left-by load Action.Stop ns h = absurd h
+left-by load Action.Nop ns h = changed-by _ ns
 
 module _ (C : Certificate) (image : List ℕ) (a : ℕ) (d : Instruction × ℕ × FlagSet) where
   -- the instruction that was decoded at a
@@ -155,7 +158,7 @@ module _ (C : Certificate) (image : List ℕ) (a : ℕ) (d : Instruction × ℕ 
     pub cell : C .compareCell t ≡ C .compareCell a
     pub number : C .compareNumber t ≡ C .compareNumber a
     pub unnamed : (g : Flag) → flagIn g (d .2 .0) ≡ false
-    pub unwritten : Holds (isUnchanged (changeOf C a (summaryAt image a .write) (C .compareCell t)))
+    pub unwritten : Holds (isUnchanged (changeOf C a (summaryAt C image a .write) (C .compareCell t)))
 
   -- the instruction is itself the CP of the compare at t
   pub record Makes (t : ℕ) : Type 0 where
@@ -167,7 +170,7 @@ module _ (C : Certificate) (image : List ℕ) (a : ℕ) (d : Instruction × ℕ 
   abbrev pub EdgeFollows : Edge → Type 0
   EdgeFollows e =
       Holds (feasible C a e)
-      → Holds (claimsFollow C a e (summaryAt image a .write)) × (Holds (present (C .compareCell (e .to))) → Makes (e .to) ⊎ Survives (e .to))
+      → Holds (claimsFollow C a e (summaryAt C image a .write)) × (Holds (present (C .compareCell (e .to))) → Makes (e .to) ⊎ Survives (e .to))
 
   -- over a CALL to t: the claims behind it survive and there is no compare; at t the claims follow, and a compare is the one at a
   pub record CallFollows (next t : ℕ) : Type 0 where
@@ -178,9 +181,9 @@ module _ (C : Certificate) (image : List ℕ) (a : ℕ) (d : Instruction × ℕ 
     pub compare : Holds (present (C .compareCell t)) → Survives t
 
   module _ (bytes : Bytes image) (found : decodeAt image a ≡ value d) where
-    summary-there : summaryAt image a ≡ summaryOf actionThere (d .2)
+    summary-there : summaryAt C image a ≡ summaryOf (loaded C image a) actionThere (d .2)
     unfolding summaryAt summaryFrom
-    summary-there = ap (λ (o : Outcome (Instruction × ℕ × FlagSet)). summaryFrom o a) found
+    summary-there = ap (λ (o : Outcome (Instruction × ℕ × FlagSet)). summaryFrom (loaded C image a) o a) found
 
     -- naming no flag, by the byte of the set
     none-if-unnamed : ((g : Flag) → flagIn g (d .2 .0) ≡ false) → d .2 .0 ≡ 0
@@ -189,78 +192,78 @@ module _ (C : Certificate) (image : List ℕ) (a : ℕ) (d : Instruction × ℕ 
         e : d .2 ≡ namesOf (getD image a 0)
         e = names-by-first image a d found
 
-    module _ (stays : Stays (summaryAt image a .flow)) where
-      left-there : LeftBy actionThere (d .2) (summaryAt image a .flags)
+    module _ (stays : Stays (summaryAt C image a .flow)) where
+      left-there : LeftBy actionThere (d .2) (summaryAt C image a .flags)
       left-there =
           subst (λ (S : Summary). LeftBy actionThere (d .2) (S .flags)) (sym summary-there)
-          (left-by actionThere (d .2) (subst Stays (ap (λ (S : Summary). S .flow) summary-there) stays))
+          (left-by (loaded C image a) actionThere (d .2) (subst Stays (ap (λ (S : Summary). S .flow) summary-there) stays))
 
       -- rule 26 lets a compare stand behind the instruction that makes it, and behind those that it survives
-      follows-only : (t : ℕ) → Holds (compareFollows C a (summaryAt image a .write) (summaryAt image a .flags) t) → Holds (present (C .compareCell t))
+      follows-only : (t : ℕ) → Holds (compareFollows C a (summaryAt C image a .write) (summaryAt C image a .flags) t) → Holds (present (C .compareCell t))
           → Makes t ⊎ Survives t
       unfolding compareFollows
-      follows-only t h p = go (summaryAt image a .flags) left-there (h p)
+      follows-only t h p = go (summaryAt C image a .flags) left-there (h p)
         where
-          go : (f : FlagEffect) → LeftBy actionThere (d .2) f → Holds (flagsFollow C a (summaryAt image a .write) f t) → Makes t ⊎ Survives t
+          go : (f : FlagEffect) → LeftBy actionThere (d .2) f → Holds (flagsFollow C a (summaryAt C image a .write) f t) → Makes t ⊎ Survives t
           go Kept l m =
               inr (record { cell = m .0; number = m .1 .0; unnamed = λ g. ap (flagIn g) l ∙ not-in-none g; unwritten = m .1 .1 })
           go Changed l m = absurd m
           go (Compared x k) l m =
               inl (record { register = x; compares = l .1 ∙ ap (λ (n : ℕ). Action.Binary Cp (Register x) (Immediate n)) (sym (m .1)); cell = m .0 })
 
-      made-flags : (t : ℕ) (m : Makes t) → summaryAt image a .flags ≡ Compared (m .register) (C .compareNumber t)
+      made-flags : (t : ℕ) (m : Makes t) → summaryAt C image a .flags ≡ Compared (m .register) (C .compareNumber t)
       unfolding summaryOf stores
       made-flags t m =
           let c = Action.Binary Cp (Register (m .register)) (Immediate (C .compareNumber t)) in
           let all = subst (λ (x : Action). Shaped (d .2) x) (m .compares) (decoded-shaped image bytes a d found (romAddr ((a + d .1) % 65536))) .1 refl in
           ap (λ (S : Summary). S .flags) summary-there
-          ∙ (ap (λ (x : Action). summaryOf x (d .2) .flags) (m .compares) ∙ ap (λ (ns : FlagSet). summaryOf c ns .flags) all)
+          ∙ (ap (λ (x : Action). summaryOf (loaded C image a) x (d .2) .flags) (m .compares) ∙ ap (λ (ns : FlagSet). summaryOf (loaded C image a) c ns .flags) all)
 
       kept-flags : (f : FlagEffect) → LeftBy actionThere (d .2) f → d .2 .0 ≡ 0 → f ≡ Kept
       kept-flags Kept l z = refl
       kept-flags Changed l z = absurd (l z)
       kept-flags (Compared x k) l z = absurd (l .0 z)
 
-      follows-if : (t : ℕ) → Makes t ⊎ Survives t → Holds (compareFollows C a (summaryAt image a .write) (summaryAt image a .flags) t)
+      follows-if : (t : ℕ) → Makes t ⊎ Survives t → Holds (compareFollows C a (summaryAt C image a .write) (summaryAt C image a .flags) t)
       unfolding compareFollows
       follows-if t (inl m) p = rw (made-flags t m) (m .cell, refl)
       follows-if t (inr s) p =
-          rw (kept-flags (summaryAt image a .flags) left-there (none-if-unnamed (s .unnamed))) (s .cell, (s .number, s .unwritten))
+          rw (kept-flags (summaryAt C image a .flags) left-there (none-if-unnamed (s .unnamed))) (s .cell, (s .number, s .unwritten))
 
     -- rule 26 on an edge says that, and no more
-    pub compare-survives : (cc : ℕ) (to : RomAddr) → summaryAt image a .flow ≡ Step cc to → (e : Edge)
-        → (Holds (edge26 C a (summaryAt image a) e) → EdgeFollows e) × (EdgeFollows e → Holds (edge26 C a (summaryAt image a) e))
+    pub compare-survives : (cc : ℕ) (to : RomAddr) → summaryAt C image a .flow ≡ Step cc to → (e : Edge)
+        → (Holds (edge26 C a (summaryAt C image a) e) → EdgeFollows e) × (EdgeFollows e → Holds (edge26 C a (summaryAt C image a) e))
     unfolding edge26 compareFollows
     compare-survives cc to flow e =
         let stays = subst Stays (sym flow) tt in
         ((λ h f. (h f .0, follows-only stays (e .to) (h f .1))), (λ h f. (h f .0, λ p. follows-if stays (e .to) (h f .1 p) p)))
 
     -- rule 26 of a CALL, whose summary writes no cell, says that, and no more
-    pub compare-over-call : (next : ℕ) (to : RomAddr) → summaryAt image a .flow ≡ Call to
-        → (Holds (rule26 C a (summaryAt image a) next) → CallFollows next (to .0)) × (CallFollows next (to .0) → Holds (rule26 C a (summaryAt image a) next))
+    pub compare-over-call : (next : ℕ) (to : RomAddr) → summaryAt C image a .flow ≡ Call to
+        → (Holds (rule26 C a (summaryAt C image a) next) → CallFollows next (to .0)) × (CallFollows next (to .0) → Holds (rule26 C a (summaryAt C image a) next))
     unfolding rule26 call26 summaryOf compareFollows
     compare-over-call next to flow =
-        ((λ h. rule-only (subst (λ (f : Flow). Holds (calls f (call26 C a (summaryAt image a .flags) next))) flow (h .1))), (λ k. rw flow (tt, rule-if k)))
+        ((λ h. rule-only (subst (λ (f : Flow). Holds (calls f (call26 C a (summaryAt C image a .flags) next))) flow (h .1))), (λ k. rw flow (tt, rule-if k)))
       where
         t : ℕ
         t = to .0
 
         call : actionThere ≡ Action.Call to
-        call = is-call actionThere (d .2) to (sym (ap (λ (S : Summary). S .flow) summary-there) ∙ flow)
+        call = is-call (loaded C image a) actionThere (d .2) to (sym (ap (λ (S : Summary). S .flow) summary-there) ∙ flow)
 
-        stays : Stays (summaryAt image a .flow)
+        stays : Stays (summaryAt C image a .flow)
         stays = subst Stays (sym flow) tt
 
-        unwritten : summaryAt image a .write ≡ Write.Nothing
-        unwritten = ap (λ (S : Summary). S .write) (summary-there ∙ ap (λ (x : Action). summaryOf x (d .2)) call)
+        unwritten : summaryAt C image a .write ≡ Write.Nothing
+        unwritten = ap (λ (S : Summary). S .write) (summary-there ∙ ap (λ (x : Action). summaryOf (loaded C image a) x (d .2)) call)
 
         CompareFollows : Write → Type 0
-        CompareFollows w = Holds (compareFollows C a w (summaryAt image a .flags) t)
+        CompareFollows w = Holds (compareFollows C a w (summaryAt C image a .flags) t)
 
         not-compare : {x : RegAddr} {k : ℕ} → Action.Call to ≡ Action.Binary Cp (Register x) (Immediate k) → ⊥
         not-compare {x} {k} e = let z : _≡_ {A = ℕ} 0 1 = cc in omega arith
 
-        rule-only : Holds (call26 C a (summaryAt image a .flags) next t) → CallFollows next t
+        rule-only : Holds (call26 C a (summaryAt C image a .flags) next t) → CallFollows next t
         rule-only h = record {
           first = h .0;
           second = h .1 .0;
@@ -271,12 +274,12 @@ module _ (C : Certificate) (image : List ℕ) (a : ℕ) (d : Instruction × ℕ 
               (follows-only stays t (subst CompareFollows (sym unwritten) (h .1 .1 .1 .1)) p);
         }
 
-        rule-if : CallFollows next t → Holds (call26 C a (summaryAt image a .flags) next t)
+        rule-if : CallFollows next t → Holds (call26 C a (summaryAt C image a .flags) next t)
         rule-if k =
             (k .first, (k .second, (k .behind, (k .claims, subst CompareFollows unwritten (λ p. follows-if stays t (inr (k .compare p)) p)))))
 
 -- behind a CALL no compare holds
-pub none-behind-call : (C : Certificate) (image : List ℕ) (a next : ℕ) (to : RomAddr) → summaryAt image a .flow ≡ Call to
-    → Holds (rule26 C a (summaryAt image a) next) → C .compareCell next ≡ noCell
+pub none-behind-call : (C : Certificate) (image : List ℕ) (a next : ℕ) (to : RomAddr) → summaryAt C image a .flow ≡ Call to
+    → Holds (rule26 C a (summaryAt C image a) next) → C .compareCell next ≡ noCell
 unfolding rule26 call26
-none-behind-call C image a next to e h = subst (λ (f : Flow). Holds (calls f (call26 C a (summaryAt image a .flags) next))) e (h .1) .1 .1 .0
+none-behind-call C image a next to e h = subst (λ (f : Flow). Holds (calls f (call26 C a (summaryAt C image a .flags) next))) e (h .1) .1 .1 .0

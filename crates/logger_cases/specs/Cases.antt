@@ -8,7 +8,7 @@ use Prim.Native.Char.{code}
 use Prim.Native.String.{String}
 use Prim.Native.String as text
 use borrow.Author.Tests.{le-leb}
-use lib.Dec.{T, ltb, leb}
+use lib.Dec.{T, leb}
 use lib.ListN.{length, getD, replicate, set}
 use Rattle.base.specs.Addresses.{romAddr, spCell}
 use Rattle.base.specs.ChoiceLaws.{choose-other}
@@ -28,12 +28,10 @@ use Rattle.semantics.specs.Step.{movedTo, stepOf}
 use Rattle.semantics.specs.Reset.{resetState}
 use Rattle.certificate.specs.declared.Verdict.{Verdict}
 use Rattle.certificate.specs.declared.Verdict.the-variants.{Accepted, Refused}
-use Rattle.certificate.specs.Layout.{Certificate, certificateFrom, certificateOf}
-use Rattle.safety.specs.Rules.{emptyEntry, addressRule}
-use Rattle.safety.specs.Verdicts.{scan, verdictOn, verdictOf}
+use Rattle.certificate.specs.Layout.{Certificate, certificateOf}
+use Rattle.safety.specs.Verdicts.{rulesAt, scan, verdictOf}
 use Rattle.report.specs.Report.{reportText}
-use Rattle.logger_cases.specs.Gathered.{upTo, bytes-length, certificate-is}
-use Rattle.logger_cases.specs.Computed.{layout, NoneBehind, verdict-by}
+use Rattle.logger_cases.specs.Computed.{layout, tables, certificate-tables, verdict-tables}
 use Rattle.logger_cases.specs.Program.{imageWith, entries, entry, cell, row, certificateWith, entry-length, cell-length, row-length}
 use Rattle.logger_cases.specs.Opened.{opened}
 
@@ -126,45 +124,26 @@ image-length : (j : ℕ) → length (imageWith j) ≡ romLength
 unfolding imageWith
 image-length j = refl
 
--- the certificate, and the verdict, computed on tables instead of bytes
-abbrev tables : ℕ → ℕ → Certificate
-tables bound floor = certificateFrom (upTo romLength entry) (upTo 256 cell) (upTo 64 (row bound)) floor 0xC0
-
-certificate-tables : (bound floor : ℕ) → certificateOf (certificateWith bound floor) ≡ tables bound floor
-unfolding certificateWith
-certificate-tables bound floor = certificate-is entry cell (row bound) floor 0xC0 entry-length cell-length (row-length bound)
-
-verdict-tables : (j bound floor : ℕ) → verdictOf (imageWith j) (certificateWith bound floor) ≡ verdictOn (tables bound floor) (imageWith j)
-unfolding verdictOf certificateWith
-verdict-tables j bound floor =
-    rw (
-      image-length j,
-      bytes-length entry cell (row bound) floor 0xC0 entry-length cell-length (row-length bound),
-      certificate-is entry cell (row bound) floor 0xC0 entry-length cell-length (row-length bound),
-    )
-
 -- where the code ends, and with it the entries
 abbrev codeEnd : ℕ
 codeEnd = 0x141
 
-empty-behind : (a : ℕ) → codeEnd ≤ a → entry a ≡ replicate 14 0
+none-behind : (a : ℕ) → codeEnd ≤ a → entry a ≡ replicate 14 0
 unfolding entry
-empty-behind a h = choose-other (leb codeEnd) a entries (replicate 14 0) (le-leb codeEnd a h) refl
+none-behind a h = choose-other (leb codeEnd) a entries (replicate 14 0) (le-leb codeEnd a h) refl
 
-behind-code : (bound floor : ℕ) → NoneBehind (tables bound floor) codeEnd
-unfolding certificateFrom addressRule emptyEntry
-behind-code bound floor a h = by-end (ltb a romLength) refl
-  where
-    by-end : (b : Bool) → ltb a romLength ≡ b → T (decide (addressRule (tables bound floor) a))
-    by-end true e = rw (e, empty-behind a h) tt
-    by-end false e = rw e tt
+-- the certificate by tables
+abbrev tablesP : ℕ → ℕ → Certificate
+tablesP bound floor = tables entry cell (row bound) floor entry-length cell-length (row-length bound)
 
-on-tables : (j bound floor : ℕ) (v : Verdict) (s : String) → T (decide (layout (tables bound floor) (imageWith j) codeEnd))
-    → scan (tables bound floor) (imageWith j) romLength 0 ≡ v → reportText v (tables bound floor) ≡ ascii s
+on-tables : (j bound floor : ℕ) (v : Verdict) (s : String) → T (decide (layout (tablesP bound floor) (imageWith j) codeEnd))
+    → scan (tablesP bound floor) (imageWith j) romLength 0 ≡ v → reportText v (tablesP bound floor) ≡ ascii s
     → CaseHolds (judges (imageWith j) (certificateWith bound floor) v s)
+unfolding certificateWith
 on-tables j bound floor v s t e q =
-    let p = verdict-tables j bound floor ∙ verdict-by (tables bound floor) (imageWith j) codeEnd (behind-code bound floor) t e in
-    (p, ap (λ w. reportText w (certificateOf (certificateWith bound floor))) p ∙ ap (reportText v) (certificate-tables bound floor) ∙ q)
+    let p = verdict-tables entry cell (row bound) floor entry-length cell-length (row-length bound) codeEnd none-behind rulesAt (imageWith j) (image-length j) t e in
+    let c = certificate-tables entry cell (row bound) floor entry-length cell-length (row-length bound) in
+    (p, ap (λ w. reportText w (certificateOf (certificateWith bound floor))) p ∙ ap (reportText v) c ∙ q)
 
 case-i : CaseHolds (acceptedP 0xA0)
 unfolding opened

@@ -1,17 +1,21 @@
--- A verdict, computed: where no entry stands behind the code, of rule 20's addresses only those below the code's end count.
+-- A verdict, computed: where no entry stands behind the code, of rule 20's addresses only those below the code's end count. And of a certificate that is
+-- given by tables, computed on the tables instead of the bytes.
 -- Assumes nothing.
-use mathlib.Core.Path.{_≡_, sym}
+use mathlib.Core.Path.{_≡_, refl, sym}
 use mathlib.Core.Logic.{⊎-elim}
+use mathlib.Core.Bool.{Bool, true, false}
 use mathlib.Core.List.{List}
 use Prim.Native.Nat.{ℕ, _≤_}
-use lib.Dec.{T}
+use lib.Dec.{T, ltb}
+use lib.ListN.{length, replicate}
 use Rattle.base.specs.Formula.{Formula, Holds, decide, sound, decide-yes, le?, _&_, forallBelow}
 use Rattle.base.specs.Lengths.{romLength}
 use Rattle.certificate.specs.declared.Verdict.{Verdict}
-use Rattle.certificate.specs.Layout.{Certificate}
-use Rattle.safety.specs.Rules.{addressRule, rule20}
-use Rattle.safety.specs.Verdicts.{scan, verdictOn}
+use Rattle.certificate.specs.Layout.{Certificate, certificateFrom, certificateOf}
+use Rattle.safety.specs.Rules.{emptyEntry, addressRule, rule20}
+use Rattle.safety.specs.Verdicts.{Rules, scanBy, verdictOnBy, verdictBy}
 use Rattle.rule20.specs.Parts.{fixedRule, cellsRule, startsRule, addressesRule, rule20-join}
+use Rattle.logger_cases.specs.Gathered.{upTo, certificateBytes, bytes-length, certificate-is}
 
 -- rule 20 as it is computed
 abbrev pub layout : Certificate → List ℕ → ℕ → Formula
@@ -21,13 +25,41 @@ layout C image codeEnd = fixedRule C image & cellsRule C & startsRule C & forall
 abbrev pub NoneBehind : Certificate → ℕ → Type 0
 NoneBehind C codeEnd = (a : ℕ) → codeEnd ≤ a → T (decide (addressRule C a))
 
-module _ (C : Certificate) (image : List ℕ) (codeEnd : ℕ) (behind : NoneBehind C codeEnd) where
+module _ (rules : Rules) (C : Certificate) (image : List ℕ) (codeEnd : ℕ) (behind : NoneBehind C codeEnd) where
   addresses : Holds (forallBelow codeEnd (addressRule C)) → Holds (addressesRule C)
   unfolding addressesRule
   addresses h a l = ⊎-elim (λ b. sound (addressRule C a) (behind a b)) (λ b. h a b) (le? codeEnd a)
 
-  pub verdict-by : {v : Verdict} → T (decide (layout C image codeEnd)) → scan C image romLength 0 ≡ v → verdictOn C image ≡ v
-  unfolding verdictOn
+  pub verdict-by : {v : Verdict} → T (decide (layout C image codeEnd)) → scanBy rules C image romLength 0 ≡ v → verdictOnBy rules C image ≡ v
+  unfolding verdictOnBy
   verdict-by t e =
       let (fixed, (cells, (starts, entries))) = sound (layout C image codeEnd) t in
-      rw (verdictOn, sym (decide-yes (rule20 C image) (rule20-join C image fixed cells starts (addresses entries)))) e
+      rw (verdictOnBy, sym (decide-yes (rule20 C image) (rule20-join C image fixed cells starts (addresses entries)))) e
+
+-- A certificate given by tables; the top is C0H --
+
+module _ (entry cell row : ℕ → List ℕ) (floor : ℕ)
+    (entries : (k : ℕ) → length (entry k) ≡ 14) (cells : (k : ℕ) → length (cell k) ≡ 3) (rows : (k : ℕ) → length (row k) ≡ 6) where
+  abbrev pub tables : Certificate
+  tables = certificateFrom (upTo romLength entry) (upTo 256 cell) (upTo 64 row) floor 0xC0
+
+  abbrev pub bytes : List ℕ
+  bytes = certificateBytes entry cell row floor 0xC0
+
+  pub certificate-tables : certificateOf bytes ≡ tables
+  certificate-tables = certificate-is entry cell row floor 0xC0 entries cells rows
+
+  module _ (codeEnd : ℕ) (none : (a : ℕ) → codeEnd ≤ a → entry a ≡ replicate 14 0) where
+    behind-code : NoneBehind tables codeEnd
+    unfolding certificateFrom addressRule emptyEntry
+    behind-code a h = by-end (ltb a romLength) refl
+      where
+        by-end : (b : Bool) → ltb a romLength ≡ b → T (decide (addressRule tables a))
+        by-end true e = rw (e, none a h) tt
+        by-end false e = rw e tt
+
+    pub verdict-tables : (rules : Rules) (image : List ℕ) → length image ≡ romLength → {v : Verdict}
+        → T (decide (layout tables image codeEnd)) → scanBy rules tables image romLength 0 ≡ v → verdictBy rules image bytes ≡ v
+    unfolding verdictBy
+    verdict-tables rules image size t e =
+        rw (size, bytes-length entry cell row floor 0xC0 entries cells rows, certificate-tables) (verdict-by rules tables image codeEnd behind-code t e)

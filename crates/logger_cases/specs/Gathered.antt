@@ -1,15 +1,16 @@
 -- A certificate given by tables: the bytes of each entry, register row and routine row in order. Its parts are the tables'.
 -- Assumes nothing.
 use mathlib.Core.Path.{_≡_, refl, sym, _∙_, ap, fun-ext}
-use mathlib.Core.Bool.{Bool, true, false}
+use mathlib.Core.Bool.{Bool, true, false, _&&_}
 use mathlib.Core.List.{List, [], _∷_, _++_, append-assoc}
 use Prim.Native.Nat.{ℕ, zero, suc, _+_, _*_, _<_}
 use native.Mathlib.Omega.{arith}
-use lib.Dec.{ltb, ltb→lt}
-use lib.ListN.{length, getD, take, drop, length-append}
+use lib.Dec.{T, eqb, ltb, ltb→lt}
+use lib.ListN.{length, getD, take, drop, replicate, length-append, length-replicate}
 use lib.Seq.{drop-drop, drop-at, take-at, getD-drop}
-use Rattle.base.specs.Choice.{pick}
-use Rattle.base.specs.Formula.{of-true}
+use Rattle.base.specs.Choice.{pick, choose}
+use Rattle.base.specs.ChoiceLaws.{pick-has}
+use Rattle.base.specs.Formula.{of-true, sound, test, eq, _&_}
 use Rattle.base.specs.Lengths.{romLength, certificateLength}
 use Rattle.certificate.specs.Layout.{certificateFrom, part, certificateOf}
 
@@ -21,6 +22,21 @@ gathered (suc n) a f = f a ++ gathered n (a + 1) f
 -- the table up to n
 abbrev pub upTo : ℕ → (ℕ → List ℕ) → ℕ → List ℕ
 upTo n f k = pick (ltb k n) (f k) []
+
+-- a table by its rows of w bytes each, zeros where none is listed
+abbrev pub listed : ℕ → List (ℕ × List ℕ) → ℕ → List ℕ
+listed w rows k = choose k rows (replicate w 0)
+
+-- each row has w bytes
+abbrev pub fit : ℕ → List (ℕ × List ℕ) → Bool
+fit w [] = true
+fit w (e ∷ rows) = eqb (length (e .1)) w && fit w rows
+
+pub listed-length : (w : ℕ) (rows : List (ℕ × List ℕ)) → T (fit w rows) → (k : ℕ) → length (listed w rows k) ≡ w
+listed-length w [] t k = length-replicate w 0
+listed-length w (e ∷ rows) t k =
+    let f = sound (eq (length (e .1)) w & test (fit w rows)) t in
+    pick-has (λ (l : List ℕ). length l ≡ w) (eqb k (e .0)) (e .1) (listed w rows k) (λ _. f .0) (λ _. listed-length w rows (of-true (fit w rows) (f .1)) k)
 
 module _ (w : ℕ) (f : ℕ → List ℕ) (wide : (k : ℕ) → length (f k) ≡ w) where
   pub gathered-length : (n a : ℕ) → length (gathered n a f) ≡ w * n

@@ -2,5 +2,6 @@ pub mod Cases
 pub mod Computed
 pub mod Gathered
 pub mod Gauges
+pub mod Linearised
 pub mod Opened
 pub mod Program

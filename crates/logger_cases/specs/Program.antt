@@ -5,10 +5,10 @@ use mathlib.Core.List.{List, [], _∷_, _++_}
 use Prim.Native.Nat.{ℕ, _-_, _/_, _%_}
 use lib.Dec.{ltb}
 use lib.ListN.{length, replicate}
-use Rattle.base.specs.Choice.{pick, choose}
-use Rattle.base.specs.ChoiceLaws.{pick-has, choose-has}
+use Rattle.base.specs.Choice.{pick}
+use Rattle.base.specs.ChoiceLaws.{pick-has}
 use Rattle.base.specs.Lengths.{romLength}
-use Rattle.logger_cases.specs.Gathered.{certificateBytes}
+use Rattle.logger_cases.specs.Gathered.{listed, listed-length, certificateBytes}
 
 -- j stands at 0128H
 unfoldable pub imageWith : ℕ → List ℕ
@@ -43,14 +43,14 @@ entries =
     ∷ (0x140, bare 2 0 10) ∷ []
 
 unfoldable pub entry : ℕ → List ℕ
-entry a = choose a entries (replicate 14 0)
+entry = listed 14 entries
 
 -- table 1 is 00H to 0FH; C2H and C3H are class 1, limit 3
 abbrev pub cellRows : List (ℕ × List ℕ)
 cellRows = (0xC2, 1 ∷ 3 ∷ 0 ∷ []) ∷ (0xC3, 1 ∷ 3 ∷ 0 ∷ []) ∷ []
 
 unfoldable pub cell : ℕ → List ℕ
-cell x = pick (ltb x 16) (0 ∷ 0 ∷ 1 ∷ []) (choose x cellRows (0 ∷ 0 ∷ 0 ∷ []))
+cell x = pick (ltb x 16) (0 ∷ 0 ∷ 1 ∷ []) (listed 3 cellRows x)
 
 -- main, the service, routine 3 with its bound
 abbrev pub rows : ℕ → List (ℕ × List ℕ)
@@ -58,27 +58,21 @@ rows bound =
     (1, 0x01 ∷ 0x00 ∷ 1 ∷ 2 ∷ 0 ∷ 0 ∷ []) ∷ (2, 0x01 ∷ 0x40 ∷ 2 ∷ 0 ∷ 0 ∷ 10 ∷ []) ∷ (3, 0x01 ∷ 0x20 ∷ 1 ∷ 0 ∷ bound / 256 ∷ bound % 256 ∷ []) ∷ []
 
 unfoldable pub row : ℕ → ℕ → List ℕ
-row bound n = choose n (rows bound) (0 ∷ 0 ∷ 0 ∷ 0 ∷ 0 ∷ 0 ∷ [])
+row bound = listed 6 (rows bound)
 
 -- the whole certificate: T is C0H
 unfoldable pub certificateWith : ℕ → ℕ → List ℕ
 certificateWith bound floor = certificateBytes entry cell (row bound) floor 0xC0
 
--- a list of w bytes
-abbrev Long : ℕ → List ℕ → Type 0
-Long w x = length x ≡ w
-
 pub entry-length : (k : ℕ) → length (entry k) ≡ 14
 unfolding entry
-entry-length k =
-    choose-has (Long 14) k entries (replicate 14 0) (refl, (refl, (refl, (refl, (refl, (refl, (refl, (refl, (refl, (refl, tt)))))))))) refl
+entry-length = listed-length 14 entries tt
 
 pub cell-length : (k : ℕ) → length (cell k) ≡ 3
 unfolding cell
 cell-length k =
-    pick-has (Long 3) (ltb k 16) (0 ∷ 0 ∷ 1 ∷ []) (choose k cellRows (0 ∷ 0 ∷ 0 ∷ [])) (λ _. refl)
-    (λ _. choose-has (Long 3) k cellRows (0 ∷ 0 ∷ 0 ∷ []) (refl, (refl, tt)) refl)
+    pick-has (λ (l : List ℕ). length l ≡ 3) (ltb k 16) (0 ∷ 0 ∷ 1 ∷ []) (listed 3 cellRows k) (λ _. refl) (λ _. listed-length 3 cellRows tt k)
 
 pub row-length : (bound k : ℕ) → length (row bound k) ≡ 6
 unfolding row
-row-length bound k = choose-has (Long 6) k (rows bound) (0 ∷ 0 ∷ 0 ∷ 0 ∷ 0 ∷ 0 ∷ []) (refl, (refl, (refl, tt))) refl
+row-length bound = listed-length 6 (rows bound) tt

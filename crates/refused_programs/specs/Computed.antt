@@ -7,7 +7,7 @@ use Rattle.base.specs.Lengths.{romLength}
 use Rattle.certificate.specs.declared.Verdict.{Verdict}
 use Rattle.certificate.specs.Layout.{certificateFrom}
 use Rattle.safety.specs.Rules.{emptyEntry, addressRule}
-use Rattle.safety.specs.Verdicts.{scan, verdictOn}
+use Rattle.safety.specs.Verdicts.{rulesAt, scan, verdictOn}
 use Rattle.logger_cases.specs.Computed.{layout, NoneBehind, verdict-by}
 use Rattle.refused_programs.specs.Programs.{Program, certificate, codeEnd}
 
@@ -18,4 +18,4 @@ module _ (p : Program) where
 
   pub verdict-is : {v : Verdict} → T (decide (layout (certificate p) (p .image) codeEnd)) → scan (certificate p) (p .image) romLength 0 ≡ v
       → verdictOn (certificate p) (p .image) ≡ v
-  verdict-is = verdict-by (certificate p) (p .image) codeEnd behind-code
+  verdict-is = verdict-by rulesAt (certificate p) (p .image) codeEnd behind-code

@@ -4,12 +4,13 @@ use Prim.Native.Nat.{ℕ}
 use Rattle.semantics.specs.Reset.{resetState}
 use Rattle.chip.specs.Reset.{resetRegisters}
 use Rattle.safety.specs.Statement.{eventOf, monitorStep}
+use Rattle.logger_cases.specs.Linearised.{imageWith as linearisedImage}
 use Rattle.logger_cases.specs.Opened.{opened as casesOpened}
 use Rattle.refused_programs.specs.Programs.{imageOf, stopping, straying, unnamed, pointing, pushing, returning, looping, charging}
-use Rattle.refused_programs.specs.Programs.{popping, fetching, resuming, serving, crossing, jumping, leaving}
+use Rattle.refused_programs.specs.Programs.{popping, fetching, resuming, serving, crossing, jumping, leaving, overlong}
 
 unfoldable programsOpened : ℕ
-unfolding imageOf stopping straying unnamed pointing pushing returning looping charging popping fetching resuming serving crossing jumping leaving
+unfolding imageOf stopping straying unnamed pointing pushing returning looping charging popping fetching resuming serving crossing jumping leaving overlong linearisedImage
 programsOpened = 0
 
 unfoldable pub opened : ℕ

@@ -1,4 +1,4 @@
--- Fifteen small programs with their certificates, each of which breaks one rule.
+-- Sixteen small programs with their certificates, each of which breaks one rule.
 -- Assumes nothing.
 use mathlib.Core.List.{List, [], _∷_, _++_}
 use Prim.Native.Nat.{ℕ, _-_}
@@ -7,6 +7,7 @@ use Rattle.base.specs.Choice.{choose}
 use Rattle.base.specs.Lengths.{romLength}
 use Rattle.certificate.specs.Layout.{Certificate, certificateFrom}
 use Rattle.logger_cases.specs.Gathered.{upTo}
+use Rattle.logger_cases.specs.Linearised as linearised
 
 -- an image, and what its certificate has: entries by address, cells by register, rows by routine, the floor
 pub record Program : Type 0 where
@@ -148,3 +149,13 @@ jumping = programOf (0x30 ∷ 0x00 ∷ []) [] 0 (entry 0x100 1 255 0 ∷ []) [] 
 -- main is RET
 unfoldable pub leaving : Program
 leaving = programOf (0xAF ∷ []) [] 0 (entry 0x100 1 255 0 ∷ []) [] [] 0xA0
+
+-- the program of `logger_cases` S`Linearised`, which takes its pointer from a table in ROM, with one byte of the table too large
+unfoldable pub overlong : Program
+overlong = record {
+  image = linearised.imageWith 0x10;
+  entries = linearised.entries;
+  cells = linearised.cells;
+  rows = linearised.rows;
+  floor = 0xA0;
+}

@@ -82,17 +82,17 @@ fn pointed_write(cert: &[u8], a: RomAddr, w: Write) -> bool
         Write::Nothing => true,
         Write::Register(_, _) => true,
         Write::Pointed(p, o) => reach(cert, a, p, o, true),
-        Write::RegisterAndPair(_, _) => true,
+        Write::RegisterAndPair(_, _, _) => true,
     }
 }
 
-// The high half's claim, low half 0 to 255, with the offset unwrapped, stays in ROM.
+// The claims on both halves of the pair, with the offset unwrapped, stay in ROM.
 fn pair_in_rom(cert: &[u8], a: RomAddr, p: RegAddr, up: u16, down: u16) -> bool
     ensures { λ r. ⌜ r ≡ decide (codeInRom (certificateOf (now (cert .entry))) (a .0) (CodeAccess.Pair p up down)) ⌝ }
 {
     let e = entries::entry_of(entries::entry_part(cert, a));
-    let low = claims::low_in(e, p) as u32 * 256 + up as u32;
-    let high = claims::high_in(e, p) as u32 * 256 + 255 + up as u32;
+    let low = claims::low_in(e, p) as u32 * 256 + claims::second_low(e, p) as u32 + up as u32;
+    let high = claims::high_in(e, p) as u32 * 256 + claims::second_high(e, p) as u32 + up as u32;
     let inside = (down as u32 <= low) & (high < base::ROM_END as u32 + down as u32);
     claims::claimed_in(e, p) & inside
 }

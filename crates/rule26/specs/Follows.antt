@@ -4,7 +4,7 @@ use Prim.Native.Nat.{ℕ, _+_, _-_}
 use mathlib.Core.Path.{_≡_, refl}
 use Rattle.base.specs.Formula.{Formula, decide, le, lt, eq, _&_, _⇒_}
 use Rattle.certificate.specs.declared.NewValue.{NewValue}
-use Rattle.certificate.specs.declared.NewValue.the-variants.{Number, OneMore, OneLess, AtMost, CopyOf, Unknown}
+use Rattle.certificate.specs.declared.NewValue.the-variants.{Number, OneMore, OneLess, Within, CopyOf, Unknown}
 use Rattle.certificate.specs.Layout.{Certificate}
 use Rattle.safety.specs.Rules.{Edge, Change, follows}
 use Rattle.claims.specs.Laws.{decide-same}
@@ -23,7 +23,7 @@ module _ (C : Certificate) (a x l h : ℕ) where
   follows-stored d e (Number n) = refl
   follows-stored d e OneMore = refl
   follows-stored d e OneLess = refl
-  follows-stored d e (AtMost n) = refl
+  follows-stored d e (Within q) = refl
   follows-stored d e (CopyOf y) = refl
   follows-stored d e Unknown = refl
 

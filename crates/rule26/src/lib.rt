@@ -50,7 +50,7 @@ fn value_follows(n: Entry, v: NewValue, k: Claim) -> bool
         NewValue::Number(x) => (k.low <= x) & (x <= k.high),
         NewValue::OneMore => one_more_follows(low, high, k),
         NewValue::OneLess => one_less_follows(low, high, k),
-        NewValue::AtMost(x) => (k.low == 0) & (x <= k.high),
+        NewValue::Within(q) => (k.low <= q.least) & (q.greatest <= k.high),
         NewValue::CopyOf(y) => (k.low <= claims::low_in(n, y)) & (claims::high_in(n, y) <= k.high),
         NewValue::Unknown => (k.low == 0) & (255 <= k.high),
     }

@@ -10,7 +10,7 @@ use native.Mathlib.Omega.{arith}
 use borrow.Author.Tests.{eq-eqb, ne-eqb}
 use Rattle.base.specs.Choice.{pick}
 use Rattle.base.specs.Formula.{Holds, decide, le, same?}
-use Rattle.certificate.specs.declared.NewValue.the-variants.{Number, OneMore, OneLess, AtMost, CopyOf, Unknown}
+use Rattle.certificate.specs.declared.NewValue.the-variants.{Number, OneMore, OneLess, Within, CopyOf, Unknown}
 use Rattle.certificate.specs.declared.Write.{Write}
 use Rattle.certificate.specs.Layout.{Certificate}
 use Rattle.safety.specs.Rules as rules
@@ -49,7 +49,7 @@ module _ (C : Certificate) (t : ℕ) where
   along-of (Changed (Number n)) c = zero-add _
   along-of (Changed OneMore) c = refl
   along-of (Changed OneLess) c = refl
-  along-of (Changed (AtMost n)) c = zero-add _
+  along-of (Changed (Within q)) c = zero-add _
   along-of (Changed (CopyOf y)) c = zero-add _
   along-of (Changed Unknown) c = zero-add _
 

@@ -5,7 +5,7 @@ use mathlib.Core.Bool.{false}
 use lib.Dec.{eqb, ltb}
 use Rattle.base.specs.Choice.{pick}
 use Rattle.base.specs.Formula.{Formula, le, _⇒_, forallBelow}
-use Rattle.certificate.specs.declared.NewValue.the-variants.{Number, OneMore, OneLess, AtMost, CopyOf, Unknown}
+use Rattle.certificate.specs.declared.NewValue.the-variants.{Number, OneMore, OneLess, Within, CopyOf, Unknown}
 use Rattle.certificate.specs.declared.Flow.{Flow}
 use Rattle.certificate.specs.Layout.{Certificate}
 use Rattle.safety.specs.Rules as rules
@@ -39,7 +39,7 @@ alongOf Unchanged e = after.Along 0 e
 alongOf (Changed (Number n)) e = after.Worst 0 e
 alongOf (Changed OneMore) e = after.OneMore e
 alongOf (Changed OneLess) e = after.OneLess e
-alongOf (Changed (AtMost n)) e = after.Worst 0 e
+alongOf (Changed (Within q)) e = after.Worst 0 e
 alongOf (Changed (CopyOf y)) e = after.Worst 0 e
 alongOf (Changed Unknown) e = after.Worst 0 e
 

@@ -142,7 +142,7 @@ fn along(c: Change, e: Entry) -> After
             NewValue::Number(_) => After::Worst(0, e),
             NewValue::OneMore => After::OneMore(e),
             NewValue::OneLess => After::OneLess(e),
-            NewValue::AtMost(_) => After::Worst(0, e),
+            NewValue::Within(_) => After::Worst(0, e),
             NewValue::CopyOf(_) => After::Worst(0, e),
             NewValue::Unknown => After::Worst(0, e),
         },

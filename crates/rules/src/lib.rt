@@ -142,7 +142,7 @@ fn direct_write(cert: &[u8], n: u8, w: Write) -> bool
         Write::Nothing => true,
         Write::Register(x, _) => chip::mapped(x) & writable(cert, n, x),
         Write::Pointed(_, _) => true,
-        Write::RegisterAndPair(x, p) => chip::mapped(x)
+        Write::RegisterAndPair(x, _, p) => chip::mapped(x)
             & (writable(cert, n, x)
                 & (chip::mapped(p) & (writable(cert, n, p) & second_half(cert, n, p)))),
     }

@@ -18,9 +18,11 @@ use Rattle.alu.specs.Operations.{stores}
 use Rattle.action.specs.declared.Operand.{Operand}
 use Rattle.action.specs.declared.Operand.the-variants.{Register, Indirect, Immediate}
 use Rattle.action.specs.declared.Action.{Action}
-use Rattle.certificate.specs.declared.NewValue.the-variants.{Number, OneMore, OneLess, AtMost, CopyOf, Unknown}
+use Rattle.certificate.specs.declared.NewValue.the-variants.{Number, OneMore, OneLess, Within, CopyOf, Unknown}
+use Rattle.certificate.specs.declared.Range.{Range}
 use Rattle.certificate.specs.declared.Write.{Write}
 use Rattle.certificate.specs.declared.Access.{Access}
+use Rattle.certificate.specs.declared.CodeAccess.{CodeAccess}
 use Rattle.certificate.specs.declared.FlagEffect.{FlagEffect}
 use Rattle.certificate.specs.declared.FlagEffect.the-variants.{Kept, Changed, Compared}
 use Rattle.certificate.specs.declared.StackEffect.the-variants.{Same, Push, Pop, Load}
@@ -35,11 +37,11 @@ Reads Write.Nothing s = Unit {0}
 Reads (Write.Register x (Number n)) s = Unit {0}
 Reads (Write.Register x OneMore) s = Unit {0}
 Reads (Write.Register x OneLess) s = Unit {0}
-Reads (Write.Register x (AtMost n)) s = Unit {0}
+Reads (Write.Register x (Within q)) s = Unit {0}
 Reads (Write.Register x (CopyOf y)) s = s ≡ Access.Register y
 Reads (Write.Register x Unknown) s = Unit {0}
 Reads (Write.Pointed p o) s = Unit {0}
-Reads (Write.RegisterAndPair x p) s = Unit {0}
+Reads (Write.RegisterAndPair x q p) s = Unit {0}
 
 pub record Coherent (S : Summary) : Type 0 where
   pub reads : Reads (S .write) (S .second)
@@ -55,13 +57,13 @@ reads-copies Write.Nothing s h m = tt
 reads-copies (Write.Register x (Number n)) s h m = tt
 reads-copies (Write.Register x OneMore) s h m = tt
 reads-copies (Write.Register x OneLess) s h m = tt
-reads-copies (Write.Register x (AtMost n)) s h m = tt
+reads-copies (Write.Register x (Within q)) s h m = tt
 reads-copies (Write.Register x (CopyOf y)) s h m = λ q.
     let z : mappedOf (y .0) ≡ true = subst (λ (u : Access). Holds (directRead u)) h m in
     unmapped (sym (ap mappedOf q) ∙ z)
 reads-copies (Write.Register x Unknown) s h m = tt
 reads-copies (Write.Pointed p o) s h m = tt
-reads-copies (Write.RegisterAndPair x p) s h m = tt
+reads-copies (Write.RegisterAndPair x q p) s h m = tt
 
 binary-reads : (op : Alu) (a : RegAddr) (s : Operand) (u : Access) → Reads (Write.Register a (binaryValue op s)) u
 binary-reads And a (Register b) u = tt
@@ -118,28 +120,28 @@ load-coherent (Register a) (Immediate n) ns = go (eqb (a .0) spCell)
 load-coherent (Indirect p x) s ns = record { reads = tt; compares = changed-compares ns _ }
 load-coherent (Immediate n) s ns = record { reads = tt; compares = tt }
 
-pub coherent : (act : Action) (ns : FlagSet) → Coherent (summaryOf act ns)
+pub coherent : (load : CodeAccess → Range) (act : Action) (ns : FlagSet) → Coherent (summaryOf load act ns)
 unfolding summaryOf
-coherent (Action.Binary op d s) ns = binary-coherent (stores op) op d s ns
-coherent (Action.Modify op (Register a)) ns = record { reads = modify-reads op a Access.Nothing; compares = changed-compares ns _ }
-coherent (Action.Modify op (Indirect p x)) ns = record { reads = tt; compares = changed-compares ns _ }
-coherent (Action.Modify op (Immediate n)) ns = record { reads = tt; compares = tt }
-coherent (Action.Load d s) ns = load-coherent d s ns
-coherent (Action.Push s) ns = record { reads = tt; compares = changed-compares ns _ }
-coherent (Action.Pop (Register a)) ns = record { reads = tt; compares = changed-compares ns _ }
-coherent (Action.Pop (Indirect p x)) ns = record { reads = tt; compares = changed-compares ns _ }
-coherent (Action.Pop (Immediate n)) ns = record { reads = tt; compares = tt }
-coherent (Action.LoadCode d c) ns = record { reads = tt; compares = changed-compares ns _ }
-coherent (Action.LoadCodeStep d p up) ns = record { reads = tt; compares = changed-compares ns _ }
-coherent Action.External ns = record { reads = tt; compares = tt }
-coherent (Action.Jump n to) ns = record { reads = tt; compares = changed-compares ns _ }
-coherent (Action.JumpPair p) ns = record { reads = tt; compares = tt }
-coherent (Action.Call to) ns = record { reads = tt; compares = changed-compares ns _ }
-coherent (Action.CallPair p) ns = record { reads = tt; compares = tt }
-coherent Action.Return ns = record { reads = tt; compares = changed-compares ns _ }
-coherent Action.InterruptReturn ns = record { reads = tt; compares = changed-compares ns _ }
-coherent (Action.Carry c) ns = record { reads = tt; compares = changed-compares ns _ }
-coherent (Action.Interrupts on) ns = record { reads = tt; compares = changed-compares ns _ }
-coherent Action.Idle ns = record { reads = tt; compares = changed-compares ns _ }
-coherent Action.Stop ns = record { reads = tt; compares = tt }
-coherent Action.Nop ns = record { reads = tt; compares = changed-compares ns _ }
+coherent load (Action.Binary op d s) ns = binary-coherent (stores op) op d s ns
+coherent load (Action.Modify op (Register a)) ns = record { reads = modify-reads op a Access.Nothing; compares = changed-compares ns _ }
+coherent load (Action.Modify op (Indirect p x)) ns = record { reads = tt; compares = changed-compares ns _ }
+coherent load (Action.Modify op (Immediate n)) ns = record { reads = tt; compares = tt }
+coherent load (Action.Load d s) ns = load-coherent d s ns
+coherent load (Action.Push s) ns = record { reads = tt; compares = changed-compares ns _ }
+coherent load (Action.Pop (Register a)) ns = record { reads = tt; compares = changed-compares ns _ }
+coherent load (Action.Pop (Indirect p x)) ns = record { reads = tt; compares = changed-compares ns _ }
+coherent load (Action.Pop (Immediate n)) ns = record { reads = tt; compares = tt }
+coherent load (Action.LoadCode d c) ns = record { reads = tt; compares = changed-compares ns _ }
+coherent load (Action.LoadCodeStep d p up) ns = record { reads = tt; compares = changed-compares ns _ }
+coherent load Action.External ns = record { reads = tt; compares = tt }
+coherent load (Action.Jump n to) ns = record { reads = tt; compares = changed-compares ns _ }
+coherent load (Action.JumpPair p) ns = record { reads = tt; compares = tt }
+coherent load (Action.Call to) ns = record { reads = tt; compares = changed-compares ns _ }
+coherent load (Action.CallPair p) ns = record { reads = tt; compares = tt }
+coherent load Action.Return ns = record { reads = tt; compares = changed-compares ns _ }
+coherent load Action.InterruptReturn ns = record { reads = tt; compares = changed-compares ns _ }
+coherent load (Action.Carry c) ns = record { reads = tt; compares = changed-compares ns _ }
+coherent load (Action.Interrupts on) ns = record { reads = tt; compares = changed-compares ns _ }
+coherent load Action.Idle ns = record { reads = tt; compares = changed-compares ns _ }
+coherent load Action.Stop ns = record { reads = tt; compares = tt }
+coherent load Action.Nop ns = record { reads = tt; compares = changed-compares ns _ }

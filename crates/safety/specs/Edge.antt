@@ -18,7 +18,7 @@ use Rattle.alu.specs.Flags.{condition}
 use Rattle.alu.specs.Operations.{compareFlags}
 use Rattle.alu.specs.Laws.{compare-lt, compare-ge, compare-eq, compare-ne, compare-le, compare-gt}
 use Rattle.certificate.specs.declared.NewValue.{NewValue}
-use Rattle.certificate.specs.declared.NewValue.the-variants.{Number, OneMore, OneLess, AtMost, CopyOf, Unknown}
+use Rattle.certificate.specs.declared.NewValue.the-variants.{Number, OneMore, OneLess, Within, CopyOf, Unknown}
 use Rattle.certificate.specs.declared.Write.{Write}
 use Rattle.certificate.specs.declared.FlagEffect.{FlagEffect}
 use Rattle.certificate.specs.declared.FlagEffect.the-variants.{Kept, Changed, Compared}
@@ -182,11 +182,11 @@ Copies Write.Nothing = Unit {0}
 Copies (Write.Register x (Number n)) = Unit {0}
 Copies (Write.Register x OneMore) = Unit {0}
 Copies (Write.Register x OneLess) = Unit {0}
-Copies (Write.Register x (AtMost n)) = Unit {0}
+Copies (Write.Register x (Within q)) = Unit {0}
 Copies (Write.Register x (CopyOf y)) = y .0 ≢ noCell
 Copies (Write.Register x Unknown) = Unit {0}
 Copies (Write.Pointed p o) = Unit {0}
-Copies (Write.RegisterAndPair x p) = Unit {0}
+Copies (Write.RegisterAndPair x q p) = Unit {0}
 
 -- what leaves a compare writes nothing
 abbrev pub Compares : FlagEffect → Write → Type 0
@@ -199,7 +199,7 @@ CopiesChange unchanged = Unit {0}
 CopiesChange (changed (Number n)) = Unit {0}
 CopiesChange (changed OneMore) = Unit {0}
 CopiesChange (changed OneLess) = Unit {0}
-CopiesChange (changed (AtMost n)) = Unit {0}
+CopiesChange (changed (Within q)) = Unit {0}
 CopiesChange (changed (CopyOf y)) = y .0 ≢ noCell
 CopiesChange (changed Unknown) = Unit {0}
 
@@ -211,7 +211,7 @@ register-copies : (x : RegAddr) (v : NewValue) → Copies (Write.Register x v) �
 register-copies x (Number n) h = tt
 register-copies x OneMore h = tt
 register-copies x OneLess h = tt
-register-copies x (AtMost n) h = tt
+register-copies x (Within q) h = tt
 register-copies x (CopyOf y) h = h
 register-copies x Unknown h = tt
 
@@ -219,8 +219,8 @@ change-copies : (C : Certificate) (a : ℕ) (w : Write) (x : ℕ) → Copies w �
 change-copies C a Write.Nothing x h = tt
 change-copies C a (Write.Register y v) x h = pick-copies (eqb x (y .0)) (changed v) (register-copies y v h)
 change-copies C a (Write.Pointed p o) x h = pick-copies (leb (low C a (p .0) + o) x && leb x (high C a (p .0) + o)) (changed Unknown) tt
-change-copies C a (Write.RegisterAndPair y p) x h =
-    pick-copies (eqb x (y .0) || eqb x (p .0) || eqb x (p .0 + 1)) (changed Unknown) tt
+change-copies C a (Write.RegisterAndPair y q p) x h =
+    pick-has CopiesChange (eqb x (p .0) || eqb x (p .0 + 1)) (changed Unknown) _ (λ _. tt) (λ _. pick-copies (eqb x (y .0)) (changed (Within q)) tt)
 
 -- The edge that is taken --
 
@@ -304,7 +304,7 @@ module _ (C : Certificate) (more : CertificateFacts C) (a : ℕ) (e : EntryFacts
         let b = regs .bytes x in
         ⊎-elim (λ (z : low C a x ≡ 0). let y = m .1 z in (omega (arith, regs′ .bytes x), omega (arith, regs′ .bytes x)))
         (λ (z : low C a x ≢ 0). let y = m .0 (omega arith) in (omega arith, omega arith)) (same? (low C a x) 0)
-    follow (changed (AtMost v)) x l h hx k m q = (omega arith, omega arith)
+    follow (changed (Within w)) x l h hx k m q = (omega arith, omega arith)
     follow (changed (CopyOf y)) x l h hx k m q = range-copy (y .0) x l h k (m .0) (m .1) q
     follow (changed Unknown) x l h hx k m q = (omega (arith, regs′ .bytes x), omega (arith, regs′ .bytes x))
 
@@ -374,7 +374,7 @@ module _ (C : Certificate) (more : CertificateFacts C) (a : ℕ) (e : EntryFacts
             let z : firstNow C t r′ ≡ firstNow C a r - 1 = first-in C t r′ (omega arith) ∙ ap (at r′) q ∙ k ∙ omega arith in
             rw z (omega arith)
         go false s = now-worst C more t r′ ht et ct
-    bound-along (changed (AtMost v)) ht et ct q h k = now-worst C more t r′ ht et ct
+    bound-along (changed (Within w)) ht et ct q h k = now-worst C more t r′ ht et ct
     bound-along (changed (CopyOf y)) ht et ct q h k = now-worst C more t r′ ht et ct
     bound-along (changed Unknown) ht et ct q h k = now-worst C more t r′ ht et ct
 
@@ -414,14 +414,18 @@ module _ (C : Certificate) (a : ℕ) (e : EntryFacts C a) (x : ℕ) (own : C .cl
       let wl = w .limit in
       ⊎-elim (λ s. let k = limited (cx ∙ s) in omega arith) (λ s. omega arith) (w .who)
 
+  abbrev Unchanged : Change → Type 0
+  Unchanged ch = Holds (isUnchanged ch)
+
+  -- a write to a register that the routine may write does not reach x
+  kept-register : (y : RegAddr) (v : NewValue) → Holds (writable C (C .routine a) (y .0)) → Unchanged (pick (eqb x (y .0)) (changed v) unchanged)
+  kept-register y v m =
+      pick-has Unchanged (eqb x (y .0)) (changed v) unchanged (λ q. not-writable (y .0) (eqb→eq x (y .0) (of-true (eqb x (y .0)) q)) m) (λ _. tt)
+
   pub kept-cell : (w : Write) → x < 256 → Holds (directWrite C (C .routine a) w) → Holds (pointedWrite C a w) → Holds (isUnchanged (changeOf C a w x))
   unfolding reach
   kept-cell Write.Nothing hx m p = tt
-  kept-cell (Write.Register y v) hx m p = go (eqb x (y .0)) refl
-    where
-      go : (b : Bool) → eqb x (y .0) ≡ b → Holds (isUnchanged (pick b (changed v) unchanged))
-      go false q = tt
-      go true q = not-writable (y .0) (eqb→eq x (y .0) (of-true (eqb x (y .0)) q)) (m .1)
+  kept-cell (Write.Register y v) hx m p = kept-register y v (m .1)
   kept-cell (Write.Pointed y o) hx m p = go (leb (low C a (y .0) + o) x && leb x (high C a (y .0) + o)) refl
     where
       go : (b : Bool) → (leb (low C a (y .0) + o) x && leb x (high C a (y .0) + o)) ≡ b → Holds (isUnchanged (pick b (changed Unknown) unchanged))
@@ -431,11 +435,9 @@ module _ (C : Certificate) (a : ℕ) (e : EntryFacts C a) (x : ℕ) (own : C .cl
           sound (le (low C a (y .0) + o) x & le x (high C a (y .0) + o))
           (of-true (leb (low C a (y .0) + o) x && leb x (high C a (y .0) + o)) q) in
           not-writable x refl (p .1 .1 .1 x hx z .1 .1)
-  kept-cell (Write.RegisterAndPair y d) hx m p = go (eqb x (y .0) || eqb x (d .0) || eqb x (d .0 + 1)) refl
-    where
-      go : (b : Bool) → (eqb x (y .0) || eqb x (d .0) || eqb x (d .0 + 1)) ≡ b → Holds (isUnchanged (pick b (changed Unknown) unchanged))
-      go false q = tt
-      go true q =
-          ⊎-elim (⊎-elim (λ z. not-writable (y .0) z (m .1 .0)) (λ z. not-writable (d .0) z (m .1 .1 .1 .0)))
-          (λ z. not-writable (d .0 + 1) z (m .1 .1 .1 .1 .1))
-          (sound ((eq x (y .0) ‖ eq x (d .0)) ‖ eq x (d .0 + 1)) (of-true (eqb x (y .0) || eqb x (d .0) || eqb x (d .0 + 1)) q))
+  kept-cell (Write.RegisterAndPair y w d) hx m p =
+      pick-has Unchanged (eqb x (d .0) || eqb x (d .0 + 1)) (changed Unknown) _
+      (λ q.
+      ⊎-elim (λ z. not-writable (d .0) z (m .1 .1 .1 .0)) (λ z. not-writable (d .0 + 1) z (m .1 .1 .1 .1 .1))
+      (sound (eq x (d .0) ‖ eq x (d .0 + 1)) (of-true (eqb x (d .0) || eqb x (d .0 + 1)) q)))
+      (λ _. kept-register y (Within w) (m .1 .0))

@@ -18,7 +18,8 @@ use Rattle.certificate.specs.declared.Verdict.the-variants.{Accepted, Refused}
 use Rattle.certificate.specs.Layout.{Certificate, certificateOf}
 use Rattle.safety.specs.Rules.{rule20}
 use Rattle.safety.specs.Accepted.{Every, Ascends, ascending, number-every, Scanned, scanned}
-use Rattle.safety.specs.Verdicts.{Rule, rulesOn, rulesAt, firstBroken, numberAt, scan, verdictOn, verdictOf, Breaks, rulesOnWhole, Broken, Reports, Exact, lengthsRight}
+use Rattle.safety.specs.Verdicts.{Rule, rulesWith, rulesAt, firstBroken, numberBy, verdictOnBy, verdictBy, numberAt, scan, verdictOn, verdictOf}
+use Rattle.safety.specs.Verdicts.{Breaks, rulesOnWhole, Broken, Reports, Exact, lengthsRight}
 
 -- The lowest broken rule of a list --
 
@@ -72,10 +73,10 @@ one-of P (q ∷ qs) e k b = ⊎-elim (λ h. subst P (h .0) (e .0)) (λ h. one-of
 
 module _ (C : Certificate) (image : List ℕ) where
   number-none : (a : ℕ) → numberAt C image a ≡ 0 → C .routine a ≢ 0 → (k : ℕ) → Breaks (rulesAt C image a) k → ⊥
-  number-none a z r = every-none (rulesAt C image a) (number-every C image a z r)
+  number-none a z r = every-none (rulesAt C image a) (number-every rulesAt C image a (ascending C image a) z r)
 
   number-lowest : (a : ℕ) → numberAt C image a ≢ 0 → (C .routine a ≢ 0) × Lowest (rulesAt C image a) (numberAt C image a)
-  unfolding numberAt
+  unfolding numberBy
   number-lowest a n = on (eqb (C .routine a) 0) refl n
     where
       on : (b : Bool) → eqb (C .routine a) 0 ≡ b → _≢_ {A = ℕ} (elim b [ true ↦ 0 | false ↦ firstBroken (rulesAt C image a) ]) 0
@@ -96,17 +97,20 @@ module _ (image cert : List ℕ) where
   whole-none : Holds (lengthsRight image cert) → Holds (rule20 C image) → (k : ℕ) → Breaks (rulesOnWhole image cert) k → ⊥
   whole-none p q = every-none (rulesOnWhole image cert) (p, (q, tt))
 
+  -- nor anywhere, where every rule at each address with an entry holds
+  pub unbroken : Holds (lengthsRight image cert) → Holds (rule20 C image)
+      → ((a : ℕ) → a < romLength → C .routine a ≢ 0 → Every (rulesAt C image a)) → (n a : ℕ) → Broken image cert n a → ⊥
+  unbroken p q e n a b = ⊎-elim (λ g. whole-none p q n (g .1)) (λ g. every-none (rulesAt C image a) (e a (g .0) (g .1)) n (g .2)) b
+
   -- every number that is broken at 0000H is at least m, where those on the whole are
   lowest-there : (m : ℕ) → m ≤ 20 → ((k : ℕ) → Breaks (rulesOnWhole image cert) k → m ≤ k) → (k : ℕ) → k < m → Broken image cert k 0 → ⊥
   lowest-there m s f k l b =
       ⊎-elim (λ h. let u : m ≤ k = f k (h .1) in omega arith)
       (λ h. let u : 20 < k = above (rulesAt C image 0) 20 (ascending C image 0) k (h .2) in omega arith) b
 
-  from-scan : Holds (lengthsRight image cert) → Holds (rule20 C image) → (v : Verdict) → Scanned C image romLength 0 v → Reports image cert v
+  from-scan : Holds (lengthsRight image cert) → Holds (rule20 C image) → (v : Verdict) → Scanned rulesAt C image romLength 0 v → Reports image cert v
   from-scan p q Accepted h =
-      λ n a b.
-      ⊎-elim (λ g. whole-none p q n (g .1))
-      (λ g. number-none C image a (h a (omega arith) (let l : a < romLength = g .0 in omega arith)) (g .1) n (g .2)) b
+      unbroken p q (λ a l r. number-every rulesAt C image a (ascending C image a) (h a (omega arith) (omega arith)) r)
   from-scan p q (Refused m a) h =
       let z = number-lowest C image (a .0) (λ e. h .some (sym (h .number) ∙ e)) in
       let low : Lowest (rulesAt C image (a .0)) m = subst (λ (j : ℕ). Lowest (rulesAt C image (a .0)) j) (h .number) (z .1) in (
@@ -117,12 +121,12 @@ module _ (image cert : List ℕ) where
       )
 
   pub verdict-reports : Reports image cert (verdictOf image cert)
-  unfolding verdictOf verdictOn
+  unfolding verdictBy verdictOnBy
   verdict-reports = lengths (decide (lengthsRight image cert)) refl
     where
       whole : Holds (lengthsRight image cert) → (b : Bool) → decide (rule20 C image) ≡ b
           → Reports image cert (elim b [ true ↦ scan C image romLength 0 | false ↦ Refused 20 (romAddr 0) ])
-      whole p true e = from-scan p (holds (rule20 C image) e) (scan C image romLength 0) (scanned C image romLength 0)
+      whole p true e = from-scan p (holds (rule20 C image) e) (scan C image romLength 0) (scanned rulesAt C image romLength 0)
       whole p false e = (
         inl (refl, inr (inl (refl, decide-false (rule20 C image) refl e))),
         lowest-there 20 (omega arith)
@@ -181,7 +185,7 @@ abbrev pub CheckNumber : ℕ → Type 0
 CheckNumber n = (n ≡ 7) ⊎ ((20 ≤ n) × (n ≤ 27))
 
 rule-numbers : (C : Certificate) (image : List ℕ) (a : ℕ) → Numbers CheckNumber (rulesAt C image a)
-unfolding rulesOn
+unfolding rulesWith
 rule-numbers C image a = (
   inr (omega arith, omega arith),
   (

@@ -21,11 +21,15 @@ use Rattle.action.specs.declared.Action.{Action}
 use Rattle.action.specs.Action.{actionOf}
 use Rattle.semantics.specs.declared.State.{State}
 use Rattle.semantics.specs.Execute.{Executed, executeOf}
+use Rattle.certificate.specs.declared.Range.{Range}
+use Rattle.certificate.specs.declared.CodeAccess.{CodeAccess}
+use Rattle.certificate.specs.declared.Summary.{Summary}
 use Rattle.certificate.specs.declared.Flow.{Flow}
 use Rattle.certificate.specs.declared.Flow.the-variants.{Step, Call, Return, InterruptReturn, Forbidden}
 use Rattle.certificate.specs.Layout.{Certificate}
 use Rattle.safety.specs.Rules.{flowAllowed, rule22, rule25}
 use Rattle.certificate.specs.Summaries.{summaryOf}
+use Rattle.safety.specs.CodeRange.{loaded}
 use Rattle.safety.specs.Verdicts.{summaryFrom, sizeFrom, summaryAt, nextAt, costAt}
 use Rattle.safety.specs.Statement.{Frame, Open, transferOf, loadsTop, charge, outward, spends, closing, PointersRight, ReturnsRight, Within, transferred, Opener, byCall, byInterrupt}
 use Rattle.safety.specs.Invariant.{at, Awake, Invariant, Shaped, tableOf, FlagsAfter}
@@ -45,32 +49,34 @@ use Rattle.safety.specs.Interrupts.{inv-interrupt-return}
 
 -- the rules at an address, for the instruction that is decoded there
 pub rules-decoded : (C : Certificate) (image : List ℕ) (a : ℕ) (d : Instruction × ℕ × FlagSet) → decodeAt image a ≡ value d → RulesHold C image a
-    → RulesOf C a (summaryOf (actionOf (d .0) (romAddr ((a + d .1) % 65536))) (d .2)) ((a + d .1) % 65536) (costAt image a)
+    → RulesOf C a (summaryOf (loaded C image a) (actionOf (d .0) (romAddr ((a + d .1) % 65536))) (d .2)) ((a + d .1) % 65536) (costAt image a)
 unfolding summaryAt nextAt summaryFrom
 rules-decoded C image a d q h =
-    subst (λ (o : Outcome (Instruction × ℕ × FlagSet)). RulesOf C a (summaryFrom o a) ((a + sizeFrom o) % 65536) (costAt image a)) q (rules-of C image a h)
+    subst (λ (o : Outcome (Instruction × ℕ × FlagSet)). RulesOf C a (summaryFrom (loaded C image a) o a) ((a + sizeFrom o) % 65536) (costAt image a)) q
+    (rules-of C image a h)
 
 pub table-decoded : (C : Certificate) (image : List ℕ) (a : ℕ) (d : Instruction × ℕ × FlagSet) → decodeAt image a ≡ value d
-    → tableOf C a (summaryAt image a) ≡ tableOf C a (summaryOf (actionOf (d .0) (romAddr ((a + d .1) % 65536))) (d .2))
+    → tableOf C a (summaryAt C image a) ≡ tableOf C a (summaryOf (loaded C image a) (actionOf (d .0) (romAddr ((a + d .1) % 65536))) (d .2))
 unfolding summaryAt summaryFrom
-table-decoded C image a d q = ap (λ (o : Outcome (Instruction × ℕ × FlagSet)). tableOf C a (summaryFrom o a)) q
+table-decoded C image a d q = ap (λ (o : Outcome (Instruction × ℕ × FlagSet)). tableOf C a (summaryFrom (loaded C image a) o a)) q
 
 -- at an address with an entry an instruction is decoded
-decoded-some : (C : Certificate) (a : ℕ) (o : Outcome (Instruction × ℕ × FlagSet)) → Holds (rule22 C a (summaryFrom o a)) → (d : Instruction × ℕ × FlagSet) × (o ≡ value d)
+decoded-some : (C : Certificate) (load : CodeAccess → Range) (a : ℕ) (o : Outcome (Instruction × ℕ × FlagSet)) → Holds (rule22 C a (summaryFrom load o a))
+    → (d : Instruction × ℕ × FlagSet) × (o ≡ value d)
 unfolding summaryFrom rule22
-decoded-some C a (value d) h = (d, refl)
-decoded-some C a (refused n) h = absurd (h .1)
+decoded-some C load a (value d) h = (d, refl)
+decoded-some C load a (refused n) h = absurd (h .1)
 
 pub decoded-at : (C : Certificate) (image : List ℕ) (a : ℕ) → RulesHold C image a → (d : Instruction × ℕ × FlagSet) × (decodeAt image a ≡ value d)
 unfolding summaryAt
-decoded-at C image a h = decoded-some C a (decodeAt image a) (h .r22)
+decoded-at C image a h = decoded-some C (loaded C image a) a (decodeAt image a) (h .r22)
 
 module _ (C : Certificate) (image : List ℕ) where
   -- the instruction act at a, with the flags ns that it names, on the registers r, with the address next behind it and cost c; o are the open routines
   pub record Right (ld : Bool) (a : ℕ) (act : Action) (ns : FlagSet) (r rec : List ℕ) (next : RomAddr) (c : ℕ) (o : Open) (e : Executed) : Type 0 where
     pub goes : e .next .stop ≡ 0
     pub awake : Awake (e .next .mode)
-    pub pointers : PointersRight C image (tableOf C a (summaryOf act ns)) r rec act
+    pub pointers : PointersRight C image (tableOf C a (summaryOf (loaded C image a) act ns)) r rec act
     pub returning : ReturnsRight (transferOf act) (o .inner) (e .next .pc .0)
     pub within : Within C (charge c o .inner ∷ charge c o .outer)
     pub keeps :
@@ -84,13 +90,20 @@ module _ (C : Certificate) (image : List ℕ) (ok : Accepts C image) (facts : Ce
   gl = global C image ok
 
   module _ (ld : Bool) (a : ℕ) (act : Action) (ns : FlagSet) (r rec : List ℕ) (next : RomAddr) (c : ℕ) (o : Open) (shaped : Shaped ns act) (input : Input rec)
-      (rules : RulesOf C a (summaryOf act ns) (next .0) c) (v : Invariant C ld r a (o .inner) (o .outer)) where
-    step-rules : StepRules C a (summaryOf act ns)
+      (rules : RulesOf C a (summaryOf (loaded C image a) act ns) (next .0) c) (v : Invariant C ld r a (o .inner) (o .outer)) where
+    -- the ranges that the claims at a give, and its summary by them
+    abbrev load : CodeAccess → Range
+    load = loaded C image a
+
+    abbrev summary : Summary
+    summary = summaryOf load act ns
+
+    step-rules : StepRules C a summary
     unfolding rule25
     step-rules = record { r23 = rules .r23; r24 = rules .r24; stack = rules .r25 .0 }
 
     -- an instruction that stays in its routine
-    right-step : (n : ℕ) (to : RomAddr) → summaryOf act ns .flow ≡ Step n to → Right C image ld a act ns r rec next c o (executeOf act ns image r rec next)
+    right-step : (n : ℕ) (to : RomAddr) → summary .flow ≡ Step n to → Right C image ld a act ns r rec next c o (executeOf act ns image r rec next)
     right-step n to flow =
         let f = o .inner in
         let fs = o .outer in
@@ -98,30 +111,30 @@ module _ (C : Certificate) (image : List ℕ) (ok : Accepts C image) (facts : Ce
         refine C image gl size bytes a (entry-of C image gl ld r a f fs v) r rec (before-of C ld r a f fs v) input next ns
         (depth-met C ld r a f fs (v .stack)) act shaped n to flow step-rules in
         let r′ = executeOf act ns image r rec next .regs in
-        let w : Invariant C (loadedAfter (summaryOf act ns .stack) ld) r′ (pick (condition n (at r flagsCell)) (to .0) (next .0)) (spends c f) (outward c fs (f .opener))
-        = inv-step C image gl facts ld r r′ a f fs (summaryOf act ns) (next .0) c n to flow (coherent act ns) rules v (d .refines) in
-        let l = loads-top C a act ns ld (rules .r23) in
-        let t = step-stays act ns n to flow in
+        let w : Invariant C (loadedAfter (summary .stack) ld) r′ (pick (condition n (at r flagsCell)) (to .0) (next .0)) (spends c f) (outward c fs (f .opener))
+        = inv-step C image gl facts ld r r′ a f fs summary (next .0) c n to flow (coherent load act ns) rules v (d .refines) in
+        let l = loads-top C a load act ns ld (rules .r23) in
+        let t = step-stays load act ns n to flow in
         record {
           goes = d .goes;
           awake = d .mode;
           pointers = d .pointers;
           returning = rw t tt;
-          within = within-of C (loadedAfter (summaryOf act ns .stack) ld) _ _ _ _ w;
+          within = within-of C (loadedAfter (summary .stack) ld) _ _ _ _ w;
           keeps = λ s′ q. rw (t, l, d .counter) w;
         }
 
     -- CALL
-    right-call : (to : RomAddr) → summaryOf act ns .flow ≡ Call to → Right C image ld a act ns r rec next c o (executeOf act ns image r rec next)
+    right-call : (to : RomAddr) → summary .flow ≡ Call to → Right C image ld a act ns r rec next c o (executeOf act ns image r rec next)
     unfolding summaryOf
     right-call to flow =
         let f = o .inner in
         let fs = o .outer in
-        let after : (r′ : List ℕ) → at r′ flagsCell ≡ at r flagsCell → FlagsAfter (summaryOf act ns .flags) r r′
-        = λ r′ k. subst (λ (x : Action). FlagsAfter (summaryOf x ns .flags) r r′) (sym (is-call act ns to flow)) (flags-kept ns r r′ k) in
-        let w = inv-call C image gl facts ns ld r rec a f fs (summaryOf act ns) next to c flow after rules v in
+        let after : (r′ : List ℕ) → at r′ flagsCell ≡ at r flagsCell → FlagsAfter (summary .flags) r r′
+        = λ r′ k. subst (λ (x : Action). FlagsAfter (summaryOf load x ns .flags) r r′) (sym (is-call load act ns to flow)) (flags-kept ns r r′ k) in
+        let w = inv-call C image gl facts ns ld r rec a f fs summary next to c flow after rules v in
         let e = executeOf (Action.Call to) ns image r rec next in
-        subst (λ (x : Action). Right C image ld a x ns r rec next c o (executeOf x ns image r rec next)) (sym (is-call act ns to flow))
+        subst (λ (x : Action). Right C image ld a x ns r rec next c o (executeOf x ns image r rec next)) (sym (is-call load act ns to flow))
         (record {
           goes = w .goes;
           awake = w .mode;
@@ -136,7 +149,7 @@ module _ (C : Certificate) (image : List ℕ) (ok : Accepts C image) (facts : Ce
 
     -- a return closes the innermost routine
     right-closing : (x : Action) (p : Opener) → ReturnRight C image x ns p ld r rec next c (o .inner) (o .outer)
-        → PointersRight C image (tableOf C a (summaryOf x ns)) r rec x
+        → PointersRight C image (tableOf C a (summaryOf load x ns)) r rec x
         → ReturnsRight (transferOf x) (o .inner) (executeOf x ns image r rec next .next .pc .0)
         → (loadsTop (C .top) x || ld) ≡ ld
         → ((s′ : State) → transferred C (transferOf x) next s′ (charge c o) ≡ closing (charge c o))
@@ -159,24 +172,24 @@ module _ (C : Certificate) (image : List ℕ) (ok : Accepts C image) (facts : Ce
         }
 
     -- RET
-    right-return : summaryOf act ns .flow ≡ Return → Right C image ld a act ns r rec next c o (executeOf act ns image r rec next)
+    right-return : summary .flow ≡ Return → Right C image ld a act ns r rec next c o (executeOf act ns image r rec next)
     right-return flow =
-        let w = inv-return C image gl facts ns ld r rec a (o .inner) (o .outer) (summaryOf act ns) next c flow rules v in
-        subst (λ (x : Action). Right C image ld a x ns r rec next c o (executeOf x ns image r rec next)) (sym (is-return act ns flow))
+        let w = inv-return C image gl facts ns ld r rec a (o .inner) (o .outer) summary next c flow rules v in
+        subst (λ (x : Action). Right C image ld a x ns r rec next c o (executeOf x ns image r rec next)) (sym (is-return load act ns flow))
         (right-closing Action.Return byCall w tt (w .counter, w .opener) refl (λ s′. refl))
 
     -- IRET
-    right-interrupt-return : summaryOf act ns .flow ≡ InterruptReturn → Right C image ld a act ns r rec next c o (executeOf act ns image r rec next)
+    right-interrupt-return : summary .flow ≡ InterruptReturn → Right C image ld a act ns r rec next c o (executeOf act ns image r rec next)
     right-interrupt-return flow =
-        let is = is-interrupt-return act ns flow in
+        let is = is-interrupt-return load act ns flow in
         let all : ns ≡ allFlags = subst (Shaped ns) is shaped in
-        let whole = inv-interrupt-return C image gl facts ld r rec a (o .inner) (o .outer) (summaryOf act ns) next c flow rules v in
+        let whole = inv-interrupt-return C image gl facts ld r rec a (o .inner) (o .outer) summary next c flow rules v in
         let w = subst (λ (n : FlagSet). ReturnRight C image Action.InterruptReturn n byInterrupt ld r rec next c (o .inner) (o .outer)) (sym all) whole in
         subst (λ (x : Action). Right C image ld a x ns r rec next c o (executeOf x ns image r rec next)) (sym is)
         (right-closing Action.InterruptReturn byInterrupt w tt (w .counter, w .opener) refl (λ s′. refl))
 
     -- by the flow of its summary; rule 22 allows no other
-    right-flow : (f : Flow) → summaryOf act ns .flow ≡ f → Right C image ld a act ns r rec next c o (executeOf act ns image r rec next)
+    right-flow : (f : Flow) → summary .flow ≡ f → Right C image ld a act ns r rec next c o (executeOf act ns image r rec next)
     unfolding rule22
     right-flow (Step n to) q = right-step n to q
     right-flow (Call to) q = right-call to q
@@ -185,4 +198,4 @@ module _ (C : Certificate) (image : List ℕ) (ok : Accepts C image) (facts : Ce
     right-flow Forbidden q = absurd (subst (λ (f : Flow). Holds (flowAllowed (C .routine a) f)) q (rules .r22 .1))
 
     pub right : Right C image ld a act ns r rec next c o (executeOf act ns image r rec next)
-    right = right-flow (summaryOf act ns .flow) refl
+    right = right-flow (summary .flow) refl

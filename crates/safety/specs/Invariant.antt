@@ -24,7 +24,7 @@ use Rattle.action.specs.declared.Action.{Action}
 use Rattle.semantics.specs.declared.Mode.{Mode}
 use Rattle.semantics.specs.declared.Mode.the-variants.{Running, Idle, Stopped}
 use Rattle.semantics.specs.Execute.{executeOf}
-use Rattle.certificate.specs.declared.NewValue.the-variants.{Number, OneMore, OneLess, AtMost, CopyOf, Unknown}
+use Rattle.certificate.specs.declared.NewValue.the-variants.{Number, OneMore, OneLess, Within, CopyOf, Unknown}
 use Rattle.certificate.specs.declared.Write.{Write}
 use Rattle.certificate.specs.declared.Access.{Access}
 use Rattle.certificate.specs.declared.FlagEffect.{FlagEffect}
@@ -68,7 +68,7 @@ Effect unchanged r r′ x = at r′ x ≡ at r x
 Effect (changed (Number n)) r r′ x = at r′ x ≡ n
 Effect (changed OneMore) r r′ x = at r′ x ≡ (at r x + 1) % 256
 Effect (changed OneLess) r r′ x = at r′ x ≡ (at r x + 255) % 256
-Effect (changed (AtMost n)) r r′ x = at r′ x ≤ n
+Effect (changed (Within q)) r r′ x = (q .least ≤ at r′ x) × (at r′ x ≤ q .greatest)
 Effect (changed (CopyOf y)) r r′ x = y .0 < ramEnd → at r′ x ≡ at r (y .0)
 Effect (changed Unknown) r r′ x = Unit {0}
 
@@ -226,7 +226,7 @@ module _ (C : Certificate) where
   writeTable a Write.Nothing t = t
   writeTable a (Write.Register x v) t = t
   writeTable a (Write.Pointed p o) t = C .table (low C a (p .0) + o)
-  writeTable a (Write.RegisterAndPair x p) t = t
+  writeTable a (Write.RegisterAndPair x q p) t = t
 
   unfoldable pub tableOf : ℕ → Summary → ℕ
   tableOf a S = writeTable a (S .write) (readTable a (S .second) (readTable a (S .first) 0))

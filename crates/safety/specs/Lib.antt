@@ -1,12 +1,17 @@
 pub mod Accepted
 pub mod Bounds
+pub mod ByteLaws
 pub mod Calls
 pub mod Chain
+pub mod CodeLoads
+pub mod CodeRange
+pub mod CodeRangeLaws
 pub mod Coherent
 pub mod DecodedShape
 pub mod Edge
 pub mod Exact
 pub mod Facts
+pub mod Formerly
 pub mod Instruction
 pub mod Interrupts
 pub mod Invariant

@@ -48,7 +48,7 @@ pub record RulesOf (C : Certificate) (a : ℕ) (S : Summary) (next cost : ℕ) :
   pub r27 : Holds (rule27 C a S cost next)
 
 pub rules-of : (C : Certificate) (image : List ℕ) (a : ℕ) → RulesHold C image a
-    → RulesOf C a (summaryAt image a) (nextAt image a) (costAt image a)
+    → RulesOf C a (summaryAt C image a) (nextAt image a) (costAt image a)
 rules-of C image a h =
     record { r21 = h .r21; r22 = h .r22; r23 = h .r23; r24 = h .r24; r25 = h .r25; r26 = h .r26; r27 = h .r27 }
 

@@ -12,12 +12,15 @@ use Rattle.isa.specs.declared.FlagSet.{FlagSet}
 use Rattle.alu.specs.Operations.{stores}
 use Rattle.action.specs.declared.Operand.the-variants.{Register, Indirect, Immediate}
 use Rattle.action.specs.declared.Action.{Action}
+use Rattle.certificate.specs.declared.Range.{Range}
+use Rattle.certificate.specs.declared.CodeAccess.{CodeAccess}
 use Rattle.certificate.specs.declared.FlagEffect.the-variants.{Changed}
 use Rattle.certificate.specs.declared.Flow.{Flow}
 use Rattle.certificate.specs.declared.Flow.the-variants.{Step, Call, Return, InterruptReturn, Forbidden}
 use Rattle.certificate.specs.declared.Summary.{Summary}
 use Rattle.certificate.specs.Layout.{Certificate}
 use Rattle.safety.specs.Rules.{unloaded}
+use Rattle.safety.specs.CodeRange.{loaded}
 use Rattle.certificate.specs.Summaries.{summaryOf, flagEffect, onward}
 use Rattle.safety.specs.Statement.{Frame}
 use Rattle.safety.specs.Invariant.{Stack, Before, Does, Shaped}
@@ -38,6 +41,10 @@ depth-met C false r pc f fs s = omega (arith, s .unloaded)
 module _ (C : Certificate) (image : List ℕ) (gl : Global C image) (size : length image ≡ romLength) (bytes : (i : ℕ) → getD image i 0 < 256)
     (a : ℕ) (e : EntryFacts C a) (r rec : List ℕ) (pre : Before C a r) (input : Input rec) (next : RomAddr)
     (ns : FlagSet) (deep : C .depth a ≤ unloaded) where
+  -- the ranges that the claims at a give
+  abbrev load : CodeAccess → Range
+  load = loaded C image a
+
   -- what is to be shown of an action, by the flow of its summary
   abbrev RefinesFlow : Flow → Summary → Action → Type 0
   RefinesFlow (Step cc to) S act = StepRules C a S → Does C image a S act ns r rec next cc (to .0)
@@ -49,42 +56,42 @@ module _ (C : Certificate) (image : List ℕ) (gl : Global C image) (size : leng
   along : (f : Flow) (S : Summary) (act : Action) → f ≡ onward → (StepRules C a S → Does C image a S act ns r rec next 0 0) → RefinesFlow f S act
   along f S act q h = subst (λ (f : Flow). RefinesFlow f S act) (sym q) h
 
-  refines-flow : (act : Action) → Shaped ns act → RefinesFlow (summaryOf act ns .flow) (summaryOf act ns) act
+  refines-flow : (act : Action) → Shaped ns act → RefinesFlow (summaryOf load act ns .flow) (summaryOf load act ns) act
   unfolding summaryOf
   refines-flow (Action.Binary op (Register x) s) h =
-      along (summaryOf (Action.Binary op (Register x) s) ns .flow) (summaryOf (Action.Binary op (Register x) s) ns) (Action.Binary op (Register x) s)
-      (binary-flow (stores op) op (Register x) s ns) (does-binary C image gl a e r rec pre input next ns op (Register x) s h)
+      along (summaryOf load (Action.Binary op (Register x) s) ns .flow) (summaryOf load (Action.Binary op (Register x) s) ns) (Action.Binary op (Register x) s)
+      (binary-flow (stores op) op (Register x) s ns) (does-binary C image gl a e r rec pre input next ns load op (Register x) s h)
   refines-flow (Action.Binary op (Indirect p o) s) h = absurd h
   refines-flow (Action.Binary op (Immediate n) s) h = absurd h
-  refines-flow (Action.Modify op (Register x)) h = does-modify C image gl a e r rec pre input next ns op (Register x) h
-  refines-flow (Action.Modify op (Indirect p o)) h = does-modify C image gl a e r rec pre input next ns op (Indirect p o) h
+  refines-flow (Action.Modify op (Register x)) h = does-modify C image gl a e r rec pre input next ns load op (Register x) h
+  refines-flow (Action.Modify op (Indirect p o)) h = does-modify C image gl a e r rec pre input next ns load op (Indirect p o) h
   refines-flow (Action.Modify op (Immediate n)) h = absurd h
-  refines-flow (Action.Load (Register x) (Register y)) h = does-load C image gl a e r rec pre input next ns (Register x) (Register y) h
-  refines-flow (Action.Load (Register x) (Indirect p o)) h = does-load C image gl a e r rec pre input next ns (Register x) (Indirect p o) h
+  refines-flow (Action.Load (Register x) (Register y)) h = does-load C image gl a e r rec pre input next ns load (Register x) (Register y) h
+  refines-flow (Action.Load (Register x) (Indirect p o)) h = does-load C image gl a e r rec pre input next ns load (Register x) (Indirect p o) h
   refines-flow (Action.Load (Register x) (Immediate n)) h =
-      along (summaryOf (Action.Load (Register x) (Immediate n)) ns .flow) (summaryOf (Action.Load (Register x) (Immediate n)) ns)
-      (Action.Load (Register x) (Immediate n)) (number-flow x n (flagEffect ns Changed)) (does-load C image gl a e r rec pre input next ns (Register x) (Immediate n) h)
-  refines-flow (Action.Load (Indirect p o) s) h = does-load C image gl a e r rec pre input next ns (Indirect p o) s h
+      along (summaryOf load (Action.Load (Register x) (Immediate n)) ns .flow) (summaryOf load (Action.Load (Register x) (Immediate n)) ns)
+      (Action.Load (Register x) (Immediate n)) (number-flow x n (flagEffect ns Changed)) (does-load C image gl a e r rec pre input next ns load (Register x) (Immediate n) h)
+  refines-flow (Action.Load (Indirect p o) s) h = does-load C image gl a e r rec pre input next ns load (Indirect p o) s h
   refines-flow (Action.Load (Immediate n) s) h = absurd h
-  refines-flow (Action.Push s) h = does-push C image gl size bytes a e r rec pre input next ns deep s h
-  refines-flow (Action.Pop (Register x)) h = does-pop C image gl size bytes a e r rec pre input next ns deep (Register x) h
-  refines-flow (Action.Pop (Indirect p o)) h = does-pop C image gl size bytes a e r rec pre input next ns deep (Indirect p o) h
+  refines-flow (Action.Push s) h = does-push C image gl size bytes a e r rec pre input next ns load deep s h
+  refines-flow (Action.Pop (Register x)) h = does-pop C image gl size bytes a e r rec pre input next ns load deep (Register x) h
+  refines-flow (Action.Pop (Indirect p o)) h = does-pop C image gl size bytes a e r rec pre input next ns load deep (Indirect p o) h
   refines-flow (Action.Pop (Immediate n)) h = absurd h
   refines-flow (Action.LoadCode d c) h = does-load-code C image gl size bytes a e r rec pre input next ns d c h
   refines-flow (Action.LoadCodeStep d p up) h = does-load-code-step C image gl size bytes a e r rec pre input next ns d p up h
   refines-flow Action.External h = tt
-  refines-flow (Action.Jump cc to) h = does-jump C image gl size bytes a e r rec pre input next ns cc to h
+  refines-flow (Action.Jump cc to) h = does-jump C image gl size bytes a e r rec pre input next ns load cc to h
   refines-flow (Action.JumpPair p) h = tt
   refines-flow (Action.Call to) h = tt
   refines-flow (Action.CallPair p) h = tt
   refines-flow Action.Return h = tt
   refines-flow Action.InterruptReturn h = tt
-  refines-flow (Action.Carry c) h = does-carry C image gl size bytes a e r rec pre input next ns c h
-  refines-flow (Action.Interrupts on) h = does-interrupts C image gl size bytes a e r rec pre input next ns on h
-  refines-flow Action.Idle h = does-idle C image gl size bytes a e r rec pre input next ns h
+  refines-flow (Action.Carry c) h = does-carry C image gl size bytes a e r rec pre input next ns load c h
+  refines-flow (Action.Interrupts on) h = does-interrupts C image gl size bytes a e r rec pre input next ns load on h
+  refines-flow Action.Idle h = does-idle C image gl size bytes a e r rec pre input next ns load h
   refines-flow Action.Stop h = tt
-  refines-flow Action.Nop h = does-nop C image gl size bytes a e r rec pre input next ns h
+  refines-flow Action.Nop h = does-nop C image gl size bytes a e r rec pre input next ns load h
 
-  pub refine : (act : Action) → Shaped ns act → (cc : ℕ) (to : RomAddr) → summaryOf act ns .flow ≡ Step cc to → StepRules C a (summaryOf act ns)
-      → Does C image a (summaryOf act ns) act ns r rec next cc (to .0)
-  refine act h cc to q = subst (λ (f : Flow). RefinesFlow f (summaryOf act ns) act) q (refines-flow act h)
+  pub refine : (act : Action) → Shaped ns act → (cc : ℕ) (to : RomAddr) → summaryOf load act ns .flow ≡ Step cc to → StepRules C a (summaryOf load act ns)
+      → Does C image a (summaryOf load act ns) act ns r rec next cc (to .0)
+  refine act h cc to q = subst (λ (f : Flow). RefinesFlow f (summaryOf load act ns) act) q (refines-flow act h)

@@ -33,6 +33,8 @@ use Rattle.certificate.specs.declared.NewValue.{NewValue}
 use Rattle.certificate.specs.declared.NewValue.the-variants.{Number, CopyOf, Unknown}
 use Rattle.certificate.specs.declared.Write.{Write}
 use Rattle.certificate.specs.declared.Access.{Access}
+use Rattle.certificate.specs.declared.Range.{Range}
+use Rattle.certificate.specs.declared.CodeAccess.{CodeAccess}
 use Rattle.certificate.specs.declared.FlagEffect.{FlagEffect}
 use Rattle.certificate.specs.declared.FlagEffect.the-variants.{Changed, Compared}
 use Rattle.certificate.specs.declared.StackEffect.the-variants.{Same, Load}
@@ -87,7 +89,7 @@ modify-gives r rec op (Immediate n) c = tt
 binary-gives : (r rec : List ℕ) (op : Alu) (x : RegAddr) (s : Operand) (y : ℕ) (c : Bool)
     → Gives (Register x) (binaryValue op s) r (operate op y (fetchOf r rec s .value) c .value)
 unfolding fetchOf
-binary-gives r rec And x (Immediate n) y c = λ l r′ q. omega (arith, and-source y n c)
+binary-gives r rec And x (Immediate n) y c = λ l r′ q. (omega arith, omega (arith, and-source y n c))
 binary-gives r rec And x (Register z) y c = λ l r′ q. tt
 binary-gives r rec And x (Indirect p o) y c = λ l r′ q. tt
 binary-gives r rec Add x s y c = λ l r′ q. tt
@@ -106,7 +108,8 @@ loadedNumber x n f b =
     pick b (moving Write.Nothing Access.Nothing Access.Nothing f (Load n))
     (moving (Write.Register x (Number n)) Access.Nothing Access.Nothing f Same)
 
-module _ (C : Certificate) (image : List ℕ) (gl : Global C image) (a : ℕ) (e : EntryFacts C a) (r rec : List ℕ) (pre : Before C a r) (input : Input rec) (next : RomAddr) (ns : FlagSet) where
+module _ (C : Certificate) (image : List ℕ) (gl : Global C image) (a : ℕ) (e : EntryFacts C a) (r rec : List ℕ) (pre : Before C a r) (input : Input rec) (next : RomAddr) (ns : FlagSet)
+    (load : CodeAccess → Range) where
   -- what it names has changed
   abbrev named : FlagEffect
   named = flagEffect ns Changed
@@ -150,8 +153,8 @@ module _ (C : Certificate) (image : List ℕ) (gl : Global C image) (a : ℕ) (e
       (flags-set ns r _ (m .flags) (w .others flagsCell (gl .flagsClass))))
       (write-table d (modifyValue op) 0 target)
 
-  pub does-modify : (op : Unary) (d : Operand) → Shaped ns (Action.Modify op d) → StepRules C a (summaryOf (Action.Modify op d) ns)
-      → Does C image a (summaryOf (Action.Modify op d) ns) (Action.Modify op d) ns r rec next 0 0
+  pub does-modify : (op : Unary) (d : Operand) → Shaped ns (Action.Modify op d) → StepRules C a (summaryOf load (Action.Modify op d) ns)
+      → Does C image a (summaryOf load (Action.Modify op d) ns) (Action.Modify op d) ns r rec next 0 0
   unfolding summaryOf
   does-modify op (Register x) h k = modifies op (Register x) tt k
   does-modify op (Indirect p o) h k = modifies op (Indirect p o) tt k
@@ -185,8 +188,8 @@ module _ (C : Certificate) (image : List ℕ) (gl : Global C image) (a : ℕ) (e
       let source = may-read C a s (k .r23 .1 .0) (k .r24 .1 .0) in
       (k .r23 .0, fetch-ok s source, read-table s source)
 
-  pub does-binary : (op : Alu) (d s : Operand) → Shaped ns (Action.Binary op d s) → StepRules C a (summaryOf (Action.Binary op d s) ns)
-      → Does C image a (summaryOf (Action.Binary op d s) ns) (Action.Binary op d s) ns r rec next 0 0
+  pub does-binary : (op : Alu) (d s : Operand) → Shaped ns (Action.Binary op d s) → StepRules C a (summaryOf load (Action.Binary op d s) ns)
+      → Does C image a (summaryOf load (Action.Binary op d s) ns) (Action.Binary op d s) ns r rec next 0 0
   unfolding summaryOf executeOf binaryOf placeOf
   does-binary op (Register x) s h k =
       let f = binary-facts (stores op) op x s k in
@@ -229,8 +232,8 @@ module _ (C : Certificate) (image : List ℕ) (gl : Global C image) (a : ℕ) (e
   loads-number x n h true q k = loads-sp x n h (eqb→eq (x .0) spCell (of-true (eqb (x .0) spCell) q))
   loads-number x n h false q k = loads (Register x) (Immediate n) (Number n) tt h (λ l r′ p. p) (λ z. tt) k
 
-  pub does-load : (d s : Operand) → Shaped ns (Action.Load d s) → StepRules C a (summaryOf (Action.Load d s) ns)
-      → Does C image a (summaryOf (Action.Load d s) ns) (Action.Load d s) ns r rec next 0 0
+  pub does-load : (d s : Operand) → Shaped ns (Action.Load d s) → StepRules C a (summaryOf load (Action.Load d s) ns)
+      → Does C image a (summaryOf load (Action.Load d s) ns) (Action.Load d s) ns r rec next 0 0
   unfolding summaryOf tableOf
   does-load (Register x) (Immediate n) h k = loads-number x n h (eqb (x .0) spCell) refl k
   does-load (Register x) (Register y) h k = loads (Register x) (Register y) (CopyOf y) tt h (λ l r′ q m. q ∙ fetch-ram r rec y m) (λ z. tt) k

@@ -25,7 +25,7 @@ use Rattle.action.specs.declared.Action.{Action}
 use Rattle.semantics.specs.Operands.{placeOf, fetchPlace, fetchOf, withFlags}
 use Rattle.semantics.specs.Execute.{goesOn, executeOf}
 use Rattle.certificate.specs.declared.NewValue.{NewValue}
-use Rattle.certificate.specs.declared.NewValue.the-variants.{Number, OneMore, OneLess, AtMost, CopyOf, Unknown}
+use Rattle.certificate.specs.declared.NewValue.the-variants.{Number, OneMore, OneLess, Within, CopyOf, Unknown}
 use Rattle.certificate.specs.declared.Write.{Write}
 use Rattle.certificate.specs.declared.FlagEffect.{FlagEffect}
 use Rattle.certificate.specs.declared.FlagEffect.the-variants.{Kept, Changed}
@@ -77,7 +77,7 @@ effect-along unchanged r r′ r″ x q h = q ∙ h
 effect-along (changed (Number n)) r r′ r″ x q h = q ∙ h
 effect-along (changed OneMore) r r′ r″ x q h = q ∙ h
 effect-along (changed OneLess) r r′ r″ x q h = q ∙ h
-effect-along (changed (AtMost n)) r r′ r″ x q h = omega arith
+effect-along (changed (Within w)) r r′ r″ x q h = (omega arith, omega arith)
 effect-along (changed (CopyOf y)) r r′ r″ x q h = λ l. q ∙ h l
 effect-along (changed Unknown) r r′ r″ x q h = tt
 

@@ -21,6 +21,8 @@ use Rattle.semantics.specs.Operands.{placeOf, fetchOf, lowered, raised, storeTo
 use Rattle.semantics.specs.Execute.{executeOf, pushOperand, popOperand}
 use Rattle.certificate.specs.declared.NewValue.the-variants.{Unknown}
 use Rattle.certificate.specs.declared.Access.{Access}
+use Rattle.certificate.specs.declared.Range.{Range}
+use Rattle.certificate.specs.declared.CodeAccess.{CodeAccess}
 use Rattle.certificate.specs.declared.FlagEffect.the-variants.{Changed}
 use Rattle.certificate.specs.declared.StackEffect.the-variants.{Pop}
 use Rattle.certificate.specs.declared.Summary.{Summary}
@@ -47,13 +49,13 @@ popping d ns = moving (writeTo d Unknown) Access.Nothing Access.Nothing (flagEff
 -- deep: rule 25 tells depth 255 from every other, and no depth is greater
 module _ (C : Certificate) (image : List ℕ) (gl : Global C image) (size : length image ≡ romLength) (bytes : (i : ℕ) → getD image i 0 < 256)
     (a : ℕ) (e : EntryFacts C a) (r rec : List ℕ) (pre : Before C a r) (input : Input rec) (next : RomAddr)
-    (ns : FlagSet) (deep : C .depth a ≤ unloaded) where
+    (ns : FlagSet) (load : CodeAccess → Range) (deep : C .depth a ≤ unloaded) where
   -- the claims hold with another SP
   claims-kept : (s : ℕ) → Claims C a (set r spCell s)
   claims-kept s x h = rw (sp-other r s x (omega arith)) (pre .claims x h)
 
-  pub does-push : (s : Operand) → Shaped ns (Action.Push s) → StepRules C a (summaryOf (Action.Push s) ns)
-      → Does C image a (summaryOf (Action.Push s) ns) (Action.Push s) ns r rec next 0 0
+  pub does-push : (s : Operand) → Shaped ns (Action.Push s) → StepRules C a (summaryOf load (Action.Push s) ns)
+      → Does C image a (summaryOf load (Action.Push s) ns) (Action.Push s) ns r rec next 0 0
   unfolding summaryOf executeOf pushOperand lowered storeTop rule23 rule24 tableOf
   does-push s h rules =
       let loaded : C .depth a < unloaded = let n = rules .stack .0 in omega arith in
@@ -72,7 +74,7 @@ module _ (C : Certificate) (image : List ℕ) (gl : Global C image) (size : leng
       let is : k ≡ sp = sp-same r sp g in
       let free : C .class k ≡ 0 = gl .stackClass k (omega arith) (omega arith) in
       let other : (x : ℕ) → x ≢ k → x ≢ spCell → at (storeOf r1 k v) x ≡ at r x = λ x n m. store-other r1 k v x n ∙ sp-other r sp x m in
-      does-onward C image gl a e (summaryOf (Action.Push s) ns) (Action.Push s) ns r rec (storeOf r1 k v) next (fetchOf r1 rec s .ok && mappedOf k) refl
+      does-onward C image gl a e (summaryOf load (Action.Push s) ns) (Action.Push s) ns r rec (storeOf r1 k v) next (fetchOf r1 rec s .ok && mappedOf k) refl
       (rw (fetch-mapped C image gl a e r1 rec (claims-kept sp) s may, mapped-ram k (omega arith)))
       (record {
         registers = store-registers r1 k v g1 hv (omega arith);
@@ -109,8 +111,8 @@ module _ (C : Certificate) (image : List ℕ) (gl : Global C image) (size : leng
       (enabled-same r (set r1 spCell sp) (sp-other r1 sp symCell (omega arith) ∙ w .others symCell (gl .symClass))))
       (in-write-table C image gl a e r rec (pre .claims) (writablePlace C a) d Unknown 0 may)
 
-  pub does-pop : (d : Operand) → Shaped ns (Action.Pop d) → StepRules C a (summaryOf (Action.Pop d) ns)
-      → Does C image a (summaryOf (Action.Pop d) ns) (Action.Pop d) ns r rec next 0 0
+  pub does-pop : (d : Operand) → Shaped ns (Action.Pop d) → StepRules C a (summaryOf load (Action.Pop d) ns)
+      → Does C image a (summaryOf load (Action.Pop d) ns) (Action.Pop d) ns r rec next 0 0
   unfolding summaryOf
   does-pop (Register x) h rules = pop-place (Register x) tt rules
   does-pop (Indirect p o) h rules = pop-place (Indirect p o) tt rules

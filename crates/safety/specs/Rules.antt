@@ -11,7 +11,7 @@ use Rattle.base.specs.Formula.{Formula, always, never, le, lt, eq, test, neg, _
 use Rattle.base.specs.Lengths.{romLength}
 use Rattle.chip.specs.Registers.{mappedOf}
 use Rattle.certificate.specs.declared.NewValue.{NewValue}
-use Rattle.certificate.specs.declared.NewValue.the-variants.{Number, OneMore, OneLess, AtMost, CopyOf, Unknown}
+use Rattle.certificate.specs.declared.NewValue.the-variants.{Number, OneMore, OneLess, Within, CopyOf, Unknown}
 use Rattle.certificate.specs.declared.Write.{Write}
 use Rattle.certificate.specs.declared.Access.{Access}
 use Rattle.certificate.specs.declared.CodeAccess.{CodeAccess}
@@ -306,7 +306,7 @@ module _ (C : Certificate) where
   directWrite n Write.Nothing = always
   directWrite n (Write.Register x v) = mapped (x .0) & writable n (x .0)
   directWrite n (Write.Pointed p o) = always
-  directWrite n (Write.RegisterAndPair x p) =
+  directWrite n (Write.RegisterAndPair x q p) =
       mapped (x .0) & writable n (x .0) & mapped (p .0) & writable n (p .0) & mapped (p .0 + 1) & writable n (p .0 + 1)
 
   unfoldable pub rule23 : ℕ → Summary → Formula
@@ -331,17 +331,23 @@ module _ (C : Certificate) where
   pointedWrite a Write.Nothing = always
   pointedWrite a (Write.Register x v) = always
   pointedWrite a (Write.Pointed p o) = reach a (p .0) o (λ x. mapped x & writable (C .routine a) x)
-  pointedWrite a (Write.RegisterAndPair x p) = always
+  pointedWrite a (Write.RegisterAndPair x q p) = always
 
-  -- a direct LDC address outside ROM; the high cell's claim, low half 0 to 255, with the offset unwrapped
+  -- request 14: every address that the claims on both halves of the pair, with the offset unwrapped, let LDC reach lies in ROM. These two are the
+  -- lowest and the highest of them. A high half without a claim counts as 0 to 255, and so reaches past ROM
   abbrev pub codeInRom : ℕ → CodeAccess → Formula
   codeInRom a CodeAccess.Nothing = always
   codeInRom a (CodeAccess.Direct t) = lt (t .0) romLength
   codeInRom a (CodeAccess.Pair p up down) =
-      claimed a (p .0) & le down (low a (p .0) * 256 + up) & lt (high a (p .0) * 256 + 255 + up) (romLength + down)
+      claimed a (p .0) & le down (low a (p .0) * 256 + low a (p .0 + 1) + up)
+      & lt (high a (p .0) * 256 + high a (p .0 + 1) + up) (romLength + down)
+
+  -- by the test of what LDC reaches
+  abbrev pub rule24By : (ℕ → CodeAccess → Formula) → ℕ → Summary → Formula
+  rule24By inRom a S = pointedRead a (S .first) & pointedRead a (S .second) & pointedWrite a (S .write) & inRom a (S .code)
 
   unfoldable pub rule24 : ℕ → Summary → Formula
-  rule24 a S = pointedRead a (S .first) & pointedRead a (S .second) & pointedWrite a (S .write) & codeInRom a (S .code)
+  rule24 a S = rule24By codeInRom a S
 
   -- Rule 25 --
 
@@ -370,7 +376,9 @@ module _ (C : Certificate) where
   changeOf a (Write.Register y v) x = pick (eqb x (y .0)) (changed v) unchanged
   changeOf a (Write.Pointed p o) x =
       pick (leb (low a (p .0) + o) x && leb x (high a (p .0) + o)) (changed Unknown) unchanged
-  changeOf a (Write.RegisterAndPair y p) x = pick (eqb x (y .0) || eqb x (p .0) || eqb x (p .0 + 1)) (changed Unknown) unchanged
+  -- the pair counts as 0 to 255, and so does a destination that belongs to it
+  changeOf a (Write.RegisterAndPair y q p) x =
+      pick (eqb x (p .0) || eqb x (p .0 + 1)) (changed Unknown) (pick (eqb x (y .0)) (changed (Within q)) unchanged)
 
   -- the cell is compared, and claimed
   unfoldable pub narrowed : ℕ → ℕ → Formula
@@ -393,7 +401,7 @@ module _ (C : Certificate) where
       (lt (high a x) 255 ⇒ le l (low a x + 1) & le (high a x + 1) h) & (le 255 (high a x) ⇒ fullRange l h)
   follows a e (changed OneLess) x l h =
       (lt 0 (low a x) ⇒ le l (low a x - 1) & le (high a x - 1) h) & (eq (low a x) 0 ⇒ fullRange l h)
-  follows a e (changed (AtMost n)) x l h = eq l 0 & le n h
+  follows a e (changed (Within q)) x l h = le l (q .least) & le (q .greatest) h
   follows a e (changed (CopyOf y)) x l h = le l (low a (y .0)) & le (high a (y .0)) h
   follows a e (changed Unknown) x l h = fullRange l h
 
@@ -453,7 +461,7 @@ module _ (C : Certificate) where
   boundAlong (changed (Number n)) t c = worst t
   boundAlong (changed OneMore) t c = pick (ltb c 255) (boundAt t (c + 1)) (worst t)
   boundAlong (changed OneLess) t c = pick (ltb 0 c) (boundAt t (c - 1)) (worst t)
-  boundAlong (changed (AtMost n)) t c = worst t
+  boundAlong (changed (Within q)) t c = worst t
   boundAlong (changed (CopyOf y)) t c = worst t
   boundAlong (changed Unknown) t c = worst t
 

@@ -1,11 +1,10 @@
 -- A walk whose every step is right is the machine's run: it does every record and does not stop.
 -- Assumes nothing.
 use mathlib.Core.Path.{_≡_, refl}
-use mathlib.Core.List.{List, [], _∷_}
+use mathlib.Core.List.{List}
 use Prim.Native.Nat.{ℕ, zero, suc, _+_, _-_, _*_, _/_, _<_}
 use native.Mathlib.Omega.{arith}
-use lib.ListN.{length, getD, take, drop, length-take, length-drop}
-use lib.Seq.{getD-drop}
+use lib.ListN.{length, getD, drop, length-take, length-drop}
 use Rattle.base.specs.Formula.{eqb-yes}
 use Rattle.base.specs.Lengths.{recordLength}
 use Rattle.semantics.specs.declared.State.{State}
@@ -13,18 +12,12 @@ use Rattle.semantics.specs.declared.Ran.{Ran}
 use Rattle.semantics.specs.Step.{stepOf}
 use Rattle.semantics.specs.Run.{recordAt, runFrom}
 use Rattle.certificate.specs.Layout.{Certificate}
+use Rattle.safety.specs.ByteLaws.{take-bytes, drop-bytes}
 use Rattle.safety.specs.Statement.{Event, Monitored, actedState, afterStep, monitorStep, eventOf, Walk}
-
--- a part of bytes holds bytes
-pub take-bytes : (n : ℕ) (l : List ℕ) → ((i : ℕ) → getD l i 0 < 256) → (i : ℕ) → getD (take n l) i 0 < 256
-take-bytes zero l h i = omega arith
-take-bytes (suc n) [] h i = omega arith
-take-bytes (suc n) (x ∷ l) h zero = h zero
-take-bytes (suc n) (x ∷ l) h (suc i) = take-bytes n l (λ j. h (suc j)) i
 
 pub record-bytes : (schedule : List ℕ) → ((i : ℕ) → getD schedule i 0 < 256) → (k i : ℕ) → getD (recordAt schedule k) i 0 < 256
 record-bytes schedule h k i =
-    take-bytes recordLength (drop (k * recordLength) schedule) (λ j. rw (getD-drop (k * recordLength) schedule j 0) (h (k * recordLength + j))) i
+    take-bytes recordLength (drop (k * recordLength) schedule) (drop-bytes (k * recordLength) schedule h) i
 
 pub record-length : (schedule : List ℕ) (k : ℕ) → k < length schedule / recordLength → length (recordAt schedule k) ≡ recordLength
 record-length schedule k h = simp (length-take, length-drop) (omega arith)

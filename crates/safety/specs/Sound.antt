@@ -75,7 +75,7 @@ module _ (C : Certificate) (image : List ℕ) (ok : Accepts C image) (facts : Ce
 
   -- the table of the instruction at each ROM address
   unfoldable pub tables : ℕ → ℕ
-  tables a = tableOf C a (summaryAt image a)
+  tables a = tableOf C a (summaryAt C image a)
 
   -- the invariant of a monitored machine
   pub record Kept (m : Monitored) : Type 0 where

@@ -15,6 +15,8 @@ use Rattle.alu.specs.Operations.{stores}
 use Rattle.action.specs.declared.Operand.{Operand}
 use Rattle.action.specs.declared.Operand.the-variants.{Register, Indirect, Immediate}
 use Rattle.action.specs.declared.Action.{Action}
+use Rattle.certificate.specs.declared.Range.{Range}
+use Rattle.certificate.specs.declared.CodeAccess.{CodeAccess}
 use Rattle.certificate.specs.declared.FlagEffect.{FlagEffect}
 use Rattle.certificate.specs.declared.FlagEffect.the-variants.{Changed}
 use Rattle.certificate.specs.declared.StackEffect.{StackEffect}
@@ -43,55 +45,56 @@ Tells Return act = act ≡ Action.Return
 Tells InterruptReturn act = act ≡ Action.InterruptReturn
 Tells Forbidden act = Unit {0}
 
-tells : (act : Action) (ns : FlagSet) → Tells (summaryOf act ns .flow) act
-unfolding summaryOf
-tells (Action.Binary op (Register x) s) ns =
-    subst (λ (f : Flow). Tells f (Action.Binary op (Register x) s)) (sym (binary-flow (stores op) op (Register x) s ns)) refl
-tells (Action.Binary op (Indirect p o) s) ns =
-    subst (λ (f : Flow). Tells f (Action.Binary op (Indirect p o) s)) (sym (binary-flow (stores op) op (Indirect p o) s ns)) refl
-tells (Action.Binary op (Immediate n) s) ns = tt
-tells (Action.Modify op (Register x)) ns = refl
-tells (Action.Modify op (Indirect p o)) ns = refl
-tells (Action.Modify op (Immediate n)) ns = tt
-tells (Action.Load (Register x) (Register y)) ns = refl
-tells (Action.Load (Register x) (Indirect p o)) ns = refl
-tells (Action.Load (Register x) (Immediate n)) ns =
-    subst (λ (f : Flow). Tells f (Action.Load (Register x) (Immediate n))) (sym (number-flow x n (flagEffect ns Changed))) refl
-tells (Action.Load (Indirect p o) s) ns = refl
-tells (Action.Load (Immediate n) s) ns = tt
-tells (Action.Push s) ns = refl
-tells (Action.Pop (Register x)) ns = refl
-tells (Action.Pop (Indirect p o)) ns = refl
-tells (Action.Pop (Immediate n)) ns = tt
-tells (Action.LoadCode d c) ns = refl
-tells (Action.LoadCodeStep d p up) ns = refl
-tells Action.External ns = tt
-tells (Action.Jump cc to) ns = refl
-tells (Action.JumpPair p) ns = tt
-tells (Action.Call to) ns = refl
-tells (Action.CallPair p) ns = tt
-tells Action.Return ns = refl
-tells Action.InterruptReturn ns = refl
-tells (Action.Carry c) ns = refl
-tells (Action.Interrupts on) ns = refl
-tells Action.Idle ns = refl
-tells Action.Stop ns = tt
-tells Action.Nop ns = refl
+module _ (load : CodeAccess → Range) where
+  tells : (act : Action) (ns : FlagSet) → Tells (summaryOf load act ns .flow) act
+  unfolding summaryOf
+  tells (Action.Binary op (Register x) s) ns =
+      subst (λ (f : Flow). Tells f (Action.Binary op (Register x) s)) (sym (binary-flow (stores op) op (Register x) s ns)) refl
+  tells (Action.Binary op (Indirect p o) s) ns =
+      subst (λ (f : Flow). Tells f (Action.Binary op (Indirect p o) s)) (sym (binary-flow (stores op) op (Indirect p o) s ns)) refl
+  tells (Action.Binary op (Immediate n) s) ns = tt
+  tells (Action.Modify op (Register x)) ns = refl
+  tells (Action.Modify op (Indirect p o)) ns = refl
+  tells (Action.Modify op (Immediate n)) ns = tt
+  tells (Action.Load (Register x) (Register y)) ns = refl
+  tells (Action.Load (Register x) (Indirect p o)) ns = refl
+  tells (Action.Load (Register x) (Immediate n)) ns =
+      subst (λ (f : Flow). Tells f (Action.Load (Register x) (Immediate n))) (sym (number-flow x n (flagEffect ns Changed))) refl
+  tells (Action.Load (Indirect p o) s) ns = refl
+  tells (Action.Load (Immediate n) s) ns = tt
+  tells (Action.Push s) ns = refl
+  tells (Action.Pop (Register x)) ns = refl
+  tells (Action.Pop (Indirect p o)) ns = refl
+  tells (Action.Pop (Immediate n)) ns = tt
+  tells (Action.LoadCode d c) ns = refl
+  tells (Action.LoadCodeStep d p up) ns = refl
+  tells Action.External ns = tt
+  tells (Action.Jump cc to) ns = refl
+  tells (Action.JumpPair p) ns = tt
+  tells (Action.Call to) ns = refl
+  tells (Action.CallPair p) ns = tt
+  tells Action.Return ns = refl
+  tells Action.InterruptReturn ns = refl
+  tells (Action.Carry c) ns = refl
+  tells (Action.Interrupts on) ns = refl
+  tells Action.Idle ns = refl
+  tells Action.Stop ns = tt
+  tells Action.Nop ns = refl
 
-told : (act : Action) (ns : FlagSet) (f : Flow) → summaryOf act ns .flow ≡ f → Tells f act
-told act ns f q = subst (λ (f : Flow). Tells f act) q (tells act ns)
+  told : (act : Action) (ns : FlagSet) (f : Flow) → summaryOf load act ns .flow ≡ f → Tells f act
+  told act ns f q = subst (λ (f : Flow). Tells f act) q (tells act ns)
 
-pub step-stays : (act : Action) (ns : FlagSet) (cc : ℕ) (to : RomAddr) → summaryOf act ns .flow ≡ Step cc to → transferOf act ≡ stays
-step-stays act ns cc to q = told act ns (Step cc to) q
+  pub step-stays : (act : Action) (ns : FlagSet) (cc : ℕ) (to : RomAddr) → summaryOf load act ns .flow ≡ Step cc to → transferOf act ≡ stays
+  step-stays act ns cc to q = told act ns (Step cc to) q
 
-pub is-call : (act : Action) (ns : FlagSet) (to : RomAddr) → summaryOf act ns .flow ≡ Call to → act ≡ Action.Call to
-is-call act ns to q = told act ns (Call to) q
+  pub is-call : (act : Action) (ns : FlagSet) (to : RomAddr) → summaryOf load act ns .flow ≡ Call to → act ≡ Action.Call to
+  is-call act ns to q = told act ns (Call to) q
 
-pub is-return : (act : Action) (ns : FlagSet) → summaryOf act ns .flow ≡ Return → act ≡ Action.Return
-is-return act ns q = told act ns Return q
+  pub is-return : (act : Action) (ns : FlagSet) → summaryOf load act ns .flow ≡ Return → act ≡ Action.Return
+  is-return act ns q = told act ns Return q
 
-pub is-interrupt-return : (act : Action) (ns : FlagSet) → summaryOf act ns .flow ≡ InterruptReturn → act ≡ Action.InterruptReturn
-is-interrupt-return act ns q = told act ns InterruptReturn q
+  pub is-interrupt-return : (act : Action) (ns : FlagSet) → summaryOf load act ns .flow ≡ InterruptReturn → act ≡ Action.InterruptReturn
+  is-interrupt-return act ns q = told act ns InterruptReturn q
 
 -- whether SP has been loaded with the top, after an action with this stack effect
 abbrev pub loadedAfter : StackEffect → Bool → Bool
@@ -104,7 +107,7 @@ binary-loads : (t : Bool) (op : Alu) (d s : Operand) (ns : FlagSet) (b : Bool) �
 binary-loads true op d s ns b = refl
 binary-loads false op d s ns b = refl
 
-module _ (C : Certificate) (a : ℕ) where
+module _ (C : Certificate) (a : ℕ) (load : CodeAccess → Range) where
   number-loads : (x : RegAddr) (n : ℕ) (f : FlagEffect) (b : Bool) → Holds (rule23 C a (loadSummary (Register x) (Immediate n) f))
       → (eqb (x .0) spCell && eqb n (C .top) || b) ≡ loadedAfter (loadSummary (Register x) (Immediate n) f .stack) b
   unfolding rule23
@@ -112,7 +115,7 @@ module _ (C : Certificate) (a : ℕ) where
       ⊎-elim (λ q. let k = rw q at h in rw (q, eqb-yes (k .1 .1 .1 .1))) (λ q. rw q) (case-bool (eqb (x .0) spCell))
 
   -- rule 23 lets SP be loaded with the top only
-  pub loads-top : (act : Action) (ns : FlagSet) (b : Bool) → Holds (rule23 C a (summaryOf act ns)) → (loadsTop (C .top) act || b) ≡ loadedAfter (summaryOf act ns .stack) b
+  pub loads-top : (act : Action) (ns : FlagSet) (b : Bool) → Holds (rule23 C a (summaryOf load act ns)) → (loadsTop (C .top) act || b) ≡ loadedAfter (summaryOf load act ns .stack) b
   unfolding summaryOf
   loads-top (Action.Binary op (Register x) s) ns b h = binary-loads (stores op) op (Register x) s ns b
   loads-top (Action.Binary op (Indirect p o) s) ns b h = binary-loads (stores op) op (Indirect p o) s ns b

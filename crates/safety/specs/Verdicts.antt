@@ -1,5 +1,5 @@
 -- The verdict on an image and a certificate: 7 for wrong lengths, then rule 20, then the lowest address and there the lowest number. Below it,
--- what a verdict reports of the rules.
+-- what a verdict reports of the rules. The verdict goes by a list of rules at each address, so that S`Formerly` can say what it was with others.
 -- Assumes nothing.
 use Prim.Native.Nat.{ℕ, zero, suc, _+_, _%_, _<_}
 use mathlib.Core.Path.{_≡_}
@@ -19,24 +19,28 @@ use Rattle.isa.specs.declared.Instruction.{Instruction}
 use Rattle.isa.specs.Map.{cyclesOf}
 use Rattle.decode.specs.Decode.{decodeAt}
 use Rattle.action.specs.Action.{actionOf}
+use Rattle.certificate.specs.declared.Range.{Range}
+use Rattle.certificate.specs.declared.CodeAccess.{CodeAccess}
 use Rattle.certificate.specs.declared.Summary.{Summary}
 use Rattle.certificate.specs.declared.Verdict.{Verdict}
 use Rattle.certificate.specs.declared.Verdict.the-variants.{Accepted, Refused}
 use Rattle.certificate.specs.Layout.{Certificate, certificateOf}
 use Rattle.certificate.specs.Summaries.{summaryOf, forbidden}
 use Rattle.safety.specs.Rules.{rule20, rule21, rule22, rule23, rule24, rule25, rule26, rule27}
+use Rattle.safety.specs.CodeRange.{loaded}
 
--- the instruction at an address: its summary, and the address behind it (one byte where there is none)
-unfoldable pub summaryFrom : Outcome (Instruction × ℕ × FlagSet) → ℕ → Summary
-summaryFrom (value d) a = summaryOf (actionOf (d .0) (romAddr ((a + d .1) % 65536))) (d .2)
-summaryFrom (refused n) a = forbidden
+-- the instruction at an address: its summary, by the range of what LDC can load from where, and the address behind it (one byte where there is none)
+unfoldable pub summaryFrom : (CodeAccess → Range) → Outcome (Instruction × ℕ × FlagSet) → ℕ → Summary
+summaryFrom load (value d) a = summaryOf load (actionOf (d .0) (romAddr ((a + d .1) % 65536))) (d .2)
+summaryFrom load (refused n) a = forbidden
 
 abbrev pub sizeFrom : Outcome (Instruction × ℕ × FlagSet) → ℕ
 sizeFrom (value d) = d .1
 sizeFrom (refused n) = 1
 
-unfoldable pub summaryAt : List ℕ → ℕ → Summary
-summaryAt image a = summaryFrom (decodeAt image a) a
+-- request 14: the destination gets the range of the bytes that the claims at the instruction let it reach
+unfoldable pub summaryAt : Certificate → List ℕ → ℕ → Summary
+summaryAt C image a = summaryFrom (loaded C image a) (decodeAt image a) a
 
 unfoldable pub nextAt : List ℕ → ℕ → ℕ
 nextAt image a = (a + sizeFrom (decodeAt image a)) % 65536
@@ -49,44 +53,66 @@ pub record Rule : Type 0 where
   pub number : ℕ
   pub formula : Formula
 
--- the rules on an instruction at an address, lowest number first: S its summary, next the address behind it
-unfoldable pub rulesOn : Certificate → ℕ → Summary → ℕ → ℕ → List Rule
-rulesOn C a S next cost =
+-- the rules on an instruction at an address, lowest number first: S its summary, next the address behind it, r24 rule 24
+unfoldable pub rulesWith : Formula → Certificate → ℕ → Summary → ℕ → ℕ → List Rule
+rulesWith r24 C a S next cost =
     record { number = 21; formula = rule21 C a S next }
     ∷ record { number = 22; formula = rule22 C a S }
     ∷ record { number = 23; formula = rule23 C a S }
-    ∷ record { number = 24; formula = rule24 C a S }
+    ∷ record { number = 24; formula = r24 }
     ∷ record { number = 25; formula = rule25 C a S next }
     ∷ record { number = 26; formula = rule26 C a S next }
     ∷ record { number = 27; formula = rule27 C a S cost next }
     ∷ []
 
+abbrev pub rulesOn : Certificate → ℕ → Summary → ℕ → ℕ → List Rule
+rulesOn C a S next cost = rulesWith (rule24 C a S) C a S next cost
+
 -- the rules at an address with an entry
 abbrev pub rulesAt : Certificate → List ℕ → ℕ → List Rule
-rulesAt C image a = rulesOn C a (summaryAt image a) (nextAt image a) (costAt image a)
+rulesAt C image a = rulesOn C a (summaryAt C image a) (nextAt image a) (costAt image a)
 
 -- the first rule of a list that is broken, or 0
 unfoldable pub firstBroken : List Rule → ℕ
 firstBroken [] = 0
 firstBroken (r ∷ rs) = elim (decide (r .formula)) [ true ↦ firstBroken rs | false ↦ r .number ]
 
--- the lowest number that is broken at an address; where no instruction starts, none is
-unfoldable pub numberAt : Certificate → List ℕ → ℕ → ℕ
-numberAt C image a = elim (eqb (C .routine a) 0) [ true ↦ 0 | false ↦ firstBroken (rulesAt C image a) ]
+-- The verdict by the rules at each address --
 
--- the n addresses from a on
-unfoldable pub scan : Certificate → List ℕ → ℕ → ℕ → Verdict
-scan C image zero a = Accepted
-scan C image (suc n) a =
-    elim (eqb (numberAt C image a) 0) [ true ↦ scan C image n (a + 1) | false ↦ Refused (numberAt C image a) (romAddr a) ]
+-- rules at the addresses of an image under a certificate
+abbrev pub Rules : Type 0
+Rules = Certificate → List ℕ → ℕ → List Rule
 
-unfoldable pub verdictOn : Certificate → List ℕ → Verdict
-verdictOn C image = elim (decide (rule20 C image)) [ true ↦ scan C image romLength 0 | false ↦ Refused 20 (romAddr 0) ]
+module _ (rules : Rules) (C : Certificate) (image : List ℕ) where
+  -- the lowest number that is broken at an address; where no instruction starts, none is
+  unfoldable pub numberBy : ℕ → ℕ
+  numberBy a = elim (eqb (C .routine a) 0) [ true ↦ 0 | false ↦ firstBroken (rules C image a) ]
 
-unfoldable pub verdictOf : List ℕ → List ℕ → Verdict
-verdictOf image cert =
-    pick (isImageLength (length image) && isCertificateLength (length cert)) (verdictOn (certificateOf cert) image)
+  -- the n addresses from a on
+  unfoldable pub scanBy : ℕ → ℕ → Verdict
+  scanBy zero a = Accepted
+  scanBy (suc n) a = elim (eqb (numberBy a) 0) [ true ↦ scanBy n (a + 1) | false ↦ Refused (numberBy a) (romAddr a) ]
+
+  unfoldable pub verdictOnBy : Verdict
+  verdictOnBy = elim (decide (rule20 C image)) [ true ↦ scanBy romLength 0 | false ↦ Refused 20 (romAddr 0) ]
+
+unfoldable pub verdictBy : Rules → List ℕ → List ℕ → Verdict
+verdictBy rules image cert =
+    pick (isImageLength (length image) && isCertificateLength (length cert)) (verdictOnBy rules (certificateOf cert) image)
     (Refused 7 (romAddr 0))
+
+abbrev pub numberAt : Certificate → List ℕ → ℕ → ℕ
+numberAt = numberBy rulesAt
+
+abbrev pub scan : Certificate → List ℕ → ℕ → ℕ → Verdict
+scan = scanBy rulesAt
+
+abbrev pub verdictOn : Certificate → List ℕ → Verdict
+verdictOn = verdictOnBy rulesAt
+
+-- the checker's verdict
+abbrev pub verdictOf : List ℕ → List ℕ → Verdict
+verdictOf = verdictBy rulesAt
 
 -- What a verdict reports: accepted, that no rule is broken; refused n a, that n is the first broken rule and a its address --
 

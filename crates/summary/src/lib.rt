@@ -1,9 +1,12 @@
-// The effect summary of an action and the flags that it names.
+// The effect summary of an action at an address and the flags that it names.
 ghost use mathlib.Core.Path.{_≡_};
 ghost use Rattle.certificate.specs.Summaries.{writeTo, binaryValue, flagEffect, binaryFlags, binarySummary, modifyValue, loadSummary};
 ghost use Rattle.certificate.specs.Summaries.{codeAccess, onward, summaryOf};
+ghost use Rattle.certificate.specs.Layout.{certificateOf};
+ghost use Rattle.safety.specs.CodeRange.{loaded};
+ghost use Rattle.alu.specs.Operations.{stores};
 ghost use Rattle.isa.specs.declared.Alu.the-variants.{And, Cp};
-ghost use Rattle.certificate.specs.declared.NewValue.the-variants.{Unknown};
+ghost use Rattle.certificate.specs.declared.NewValue.the-variants.{Unknown, Within};
 ghost use Rattle.certificate.specs.declared.StackEffect.the-variants.{Same, Push, Pop};
 use action::Action;
 use action::CodeAddress;
@@ -16,6 +19,7 @@ use certificate::Control;
 use certificate::FlagEffect;
 use certificate::Flow;
 use certificate::NewValue;
+use certificate::Range;
 use certificate::StackEffect;
 use certificate::Summary;
 use certificate::Write;
@@ -113,7 +117,10 @@ fn and_value(s: Operand) -> NewValue
     ensures { λ r. ⌜ r ≡ binaryValue And s ⌝ }
 {
     match s {
-        Operand::Immediate(n) => NewValue::AtMost(n),
+        Operand::Immediate(n) => NewValue::Within(Range {
+            least: 0,
+            greatest: n,
+        }),
         Operand::Register(_) => NewValue::Unknown,
         Operand::Indirect(_, _) => NewValue::Unknown,
     }
@@ -332,14 +339,46 @@ fn pop_summary(d: Operand, g: FlagEffect) -> Summary
 }
 
 fn operation_summary(op: Alu, d: Operand, s: Operand, names: FlagSet) -> Summary
-    ensures { λ r. ⌜ r ≡ summaryOf (Action.Binary op d s) names ⌝ }
+    ensures { λ r. ⌜ r ≡ Rattle.certificate.specs.Summaries.into d (binarySummary (stores op) op d s names) ⌝ }
 {
     into(d, binary_summary(alu::stores(op), op, d, s, names))
 }
 
-// The effect summary of an action and the flags that it names.
-pub fn summary_of(action: Action, names: FlagSet) -> Summary
-    ensures { λ r. ⌜ r ≡ summaryOf action names ⌝ }
+// LDC at a: register d gets a byte of those that the claims let it reach.
+fn load_code(
+    image: &[u8],
+    cert: &[u8],
+    a: RomAddr,
+    d: RegAddr,
+    c: CodeAddress,
+    g: FlagEffect,
+) -> Summary
+    ensures { λ r. ⌜ r ≡ Rattle.certificate.specs.Summaries.reaching (Write.Register d (Within (loaded (certificateOf (now (cert .entry))) (now (image .entry)) (a .0) (codeAccess c)))) (codeAccess c) g ⌝ }
+{
+    let from = code_access(c);
+    let q = code_range::loaded(image, cert, a, from);
+    reaching(Write::Register(d, NewValue::Within(q)), from, g)
+}
+
+// LDCI and LDCD at a: the same, and pair p is counted on.
+fn load_code_step(
+    image: &[u8],
+    cert: &[u8],
+    a: RomAddr,
+    d: RegAddr,
+    p: RegAddr,
+    g: FlagEffect,
+) -> Summary
+    ensures { λ r. ⌜ r ≡ Rattle.certificate.specs.Summaries.reaching (Write.RegisterAndPair d (loaded (certificateOf (now (cert .entry))) (now (image .entry)) (a .0) (CodeAccess.Pair p 0 0)) p) (CodeAccess.Pair p 0 0) g ⌝ }
+{
+    let from = CodeAccess::Pair(p, 0, 0);
+    let q = code_range::loaded(image, cert, a, from);
+    reaching(Write::RegisterAndPair(d, q, p), from, g)
+}
+
+// The effect summary of an action at a and the flags that it names.
+pub fn summary_of(image: &[u8], cert: &[u8], a: RomAddr, action: Action, names: FlagSet) -> Summary
+    ensures { λ r. ⌜ r ≡ summaryOf (loaded (certificateOf (now (cert .entry))) (now (image .entry)) (a .0)) action names ⌝ }
 {
     let g = flag_effect(names, FlagEffect::Changed);
     match action {
@@ -348,16 +387,8 @@ pub fn summary_of(action: Action, names: FlagSet) -> Summary
         Action::Load(d, s) => load_summary(d, s, g),
         Action::Push(s) => push_summary(s, g),
         Action::Pop(d) => pop_summary(d, g),
-        Action::LoadCode(d, c) => reaching(
-            Write::Register(d, NewValue::Unknown),
-            code_access(c),
-            g,
-        ),
-        Action::LoadCodeStep(d, p, _) => reaching(
-            Write::RegisterAndPair(d, p),
-            CodeAccess::Pair(p, 0, 0),
-            g,
-        ),
+        Action::LoadCode(d, c) => load_code(image, cert, a, d, c, g),
+        Action::LoadCodeStep(d, p, _) => load_code_step(image, cert, a, d, p, g),
         Action::External => forbidden(),
         Action::Jump(cc, to) => going(Flow::Step(cc, to), g),
         Action::JumpPair(_) => forbidden(),

@@ -1,5 +1,5 @@
 -- The scan goes on while the number is 0, and stops at the first address where it is not.
-use Rattle.safety.specs.Verdicts.{scan}
+use Rattle.safety.specs.Verdicts.{scanBy, scan}
 use Rattle.checker.proofs.Laws.{scan-on, scan-stop}
 use Rattle.certificate.specs.Layout.{certificateOf}
 use Rattle.base.specs.Lengths.{romLength}
@@ -23,7 +23,7 @@ number-at-requires : tie.Need-number-at-requires Inv-loop μ-loop
 number-at-requires c κs = search needs
 
 returns : tie.Need-returns Inv-loop μ-loop
-unfolding scan
+unfolding scanBy
 returns c =
     let g = c .before .before .before .before .before .before .args in
     let C = certificateOf (g .cert .now) in
@@ -46,7 +46,7 @@ loop-again c =
     (omega arith, o .inv .1 ∙ scan-on C image (o .a) (omega arith) (sym (c .before .number-at .ensures) ∙ c .if1 .left))
 
 returns-2 : tie.Need-returns-2 Inv-loop μ-loop
-unfolding scan
+unfolding scanBy
 returns-2 c =
     let g = c .before .before .before .before .args in
     let C = certificateOf (g .cert .now) in

@@ -28,7 +28,7 @@ returns c =
     let k = c .before .cost-at .result in
     c .first-broken .ensures
     ∙ ap (λ (i : Located). firstBroken (rulesOn C a (i .summary) (i .next .0) k)) (c .before .before .before .instruction-at .ensures)
-    ∙ ap (λ (n : ℕ). firstBroken (rulesOn C a (summaryAt image a) (nextAt image a) n)) (c .before .cost-at .ensures)
+    ∙ ap (λ (n : ℕ). firstBroken (rulesOn C a (summaryAt C image a) (nextAt image a) n)) (c .before .cost-at .ensures)
 
 pub number-in-spec : {M : Type 1} → statement M
 number-in-spec =

@@ -30,17 +30,8 @@ changed-if-requires-2 c κs = search needs
 enum-known-w-3 : tie.Need-enum-known-w-3
 enum-known-w-3 c = search needs
 
-cast-changed-if : tie.Need-cast-changed-if
-cast-changed-if c = search needs
-
-cast-changed-if-2 : tie.Need-cast-changed-if-2
-cast-changed-if-2 c = search needs
-
-add-changed-if : tie.Need-add-changed-if
-add-changed-if c = search needs
-
-changed-if-requires-3 : tie.Need-changed-if-requires-3
-changed-if-requires-3 c κs = search needs
+pair-change-requires : tie.Need-pair-change-requires
+pair-change-requires c κs = search needs
 
 returns : tie.Need-returns
 returns c C a q = simp (c .enum-told .given .1)
@@ -55,9 +46,7 @@ returns-3 c C a q =
     (c .before .pointed-at .ensures C a q))
 
 returns-4 : tie.Need-returns-4
-returns-4 c C a q =
-    let b = c .before .before .before .before in
-    simp (c .changed-if3 .ensures, change-pick, b .before .before .before .before .w3 .given .1)
+returns-4 c C a q = rw (c .before .before .w3 .given .1) (c .pair-change .ensures C a)
 
 pub change-of-spec : {M : Type 1} → statement M
 change-of-spec =
@@ -70,10 +59,7 @@ change-of-spec =
     pointed-at-requires
     changed-if-requires-2
     enum-known-w-3
-    cast-changed-if
-    cast-changed-if-2
-    add-changed-if
-    changed-if-requires-3
+    pair-change-requires
     returns
     returns-2
     returns-3

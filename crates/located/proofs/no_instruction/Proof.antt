@@ -1,6 +1,4 @@
 -- What does not decode is forbidden and one byte long.
-use Rattle.located.specs.Located.{locatedIn}
-use Rattle.safety.specs.Verdicts.{summaryFrom}
 use borrow.Author.Needs.{needs}
 use Rattle.located.proofs.no_instruction.Statement.{statement}
 use Rattle.located.proofs.no_instruction.Tie as tie
@@ -12,7 +10,6 @@ wrapping-add-u16-requires : tie.Need-wrapping-add-u16-requires
 wrapping-add-u16-requires c κs = search needs
 
 returns : tie.Need-returns
-unfolding locatedIn summaryFrom
 returns c = simp (c .wrapping-add-u16 .ensures, c .before .forbidden .ensures)
 
 pub no-instruction-spec : {M : Type 1} → statement M

@@ -1,4 +1,4 @@
--- The pair's claim with the offset, unwrapped, lies in ROM.
+-- The lowest and the highest address of the pair's claims, with the offset unwrapped, lie in ROM.
 use Rattle.certificate.specs.Layout.{certificateOf}
 use mathlib.Core.Path.{_∙_}
 use borrow.Author.Needs.{needs}
@@ -20,8 +20,17 @@ cast-low c = search needs
 mul-low : tie.Need-mul-low
 mul-low c = search needs
 
+second-low-requires : tie.Need-second-low-requires
+second-low-requires c κs = search needs
+
+cast-low-2 : tie.Need-cast-low-2
+cast-low-2 c = search needs
+
 add-low : tie.Need-add-low
 add-low c = search needs
+
+add-low-2 : tie.Need-add-low-2
+add-low-2 c = search needs
 
 high-in-requires : tie.Need-high-in-requires
 high-in-requires c κs = search needs
@@ -31,6 +40,12 @@ cast-high c = search needs
 
 mul-high : tie.Need-mul-high
 mul-high c = search needs
+
+second-high-requires : tie.Need-second-high-requires
+second-high-requires c κs = search needs
+
+cast-high-2 : tie.Need-cast-high-2
+cast-high-2 c = search needs
 
 add-high : tie.Need-add-high
 add-high c = search needs
@@ -49,12 +64,18 @@ claimed-in-requires c κs = search needs
 
 returns : tie.Need-returns
 returns c =
-    let s = c .before .before .before in
+    let s = c .before .before .before .before .before in
     let g = s .before .before .before .args in
     let C = certificateOf (g .cert .now) in
     let a = g .a .0 in
     let q = s .entry-of .ensures ∙ s .before .entry-part .ensures .1 in
-    simp (c .claimed-in .ensures C a q, c .before .high-in .ensures C a q, c .before .before .low-in .ensures C a q)
+    rw (
+      c .claimed-in .ensures C a q,
+      c .before .second-high .ensures C a q,
+      c .before .before .high-in .ensures C a q,
+      c .before .before .before .second-low .ensures C a q,
+      c .before .before .before .before .low-in .ensures C a q,
+    )
 
 pub pair-in-rom-spec : {M : Type 1} → statement M
 pair-in-rom-spec =
@@ -65,10 +86,15 @@ pair-in-rom-spec =
     low-in-requires
     cast-low
     mul-low
+    second-low-requires
+    cast-low-2
     add-low
+    add-low-2
     high-in-requires
     cast-high
     mul-high
+    second-high-requires
+    cast-high-2
     add-high
     add-high-2
     cast-inside

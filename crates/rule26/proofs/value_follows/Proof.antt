@@ -53,7 +53,7 @@ returns-3 c C a q =
     simp (c .one-less-follows .ensures, c .before .enum-told2 .given .1, b .high-in .ensures C a q, b .before .low-in .ensures C a q)
 
 returns-4 : tie.Need-returns-4
-returns-4 c C a q = simp (c .before .before .before .v2 .given .1)
+returns-4 c C a q = simp (c .before .before .before .before .before .v2 .given .1)
 
 returns-5 : tie.Need-returns-5
 returns-5 c C a q =

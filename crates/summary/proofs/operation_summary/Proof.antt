@@ -1,5 +1,4 @@
 -- A two-operand instruction into a place; a number is no destination.
-use Rattle.certificate.specs.Summaries.{summaryOf}
 use borrow.Author.Needs.{needs}
 use Rattle.summary.proofs.operation_summary.Statement.{statement}
 use Rattle.summary.proofs.operation_summary.Tie as tie
@@ -14,7 +13,6 @@ into-requires : tie.Need-into-requires
 into-requires c κs = search needs
 
 returns : tie.Need-returns
-unfolding summaryOf
 returns c = simp (c .into .ensures, c .before .binary-summary .ensures, c .before .before .stores .ensures)
 
 pub operation-summary-spec : {M : Type 1} → statement M

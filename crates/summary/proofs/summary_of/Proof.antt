@@ -40,17 +40,14 @@ pop-summary-requires c κs = search needs
 enum-known-action-6 : tie.Need-enum-known-action-6
 enum-known-action-6 c = search needs
 
-code-access-requires : tie.Need-code-access-requires
-code-access-requires c κs = search needs
-
-reaching-requires : tie.Need-reaching-requires
-reaching-requires c κs = search needs
+load-code-requires : tie.Need-load-code-requires
+load-code-requires c κs = search needs
 
 enum-known-action-7 : tie.Need-enum-known-action-7
 enum-known-action-7 c = search needs
 
-reaching-requires-2 : tie.Need-reaching-requires-2
-reaching-requires-2 c κs = search needs
+load-code-step-requires : tie.Need-load-code-step-requires
+load-code-step-requires c κs = search needs
 
 enum-told : tie.Need-enum-told
 enum-told c = search needs
@@ -149,11 +146,11 @@ returns-5 c = simp (c .pop-summary .ensures, c .before .before .action5 .given .
 
 returns-6 : tie.Need-returns-6
 unfolding summaryOf
-returns-6 c = simp (c .reaching .ensures, c .before .code-access .ensures, c .before .before .before .action6 .given .1, c .before .before .before .before .before .flag-effect .ensures)
+returns-6 c = simp (c .load-code .ensures, c .before .before .action6 .given .1, c .before .before .before .before .flag-effect .ensures)
 
 returns-7 : tie.Need-returns-7
 unfolding summaryOf
-returns-7 c = simp (c .reaching2 .ensures, c .before .before .action7 .given .1, c .before .before .before .before .flag-effect .ensures)
+returns-7 c = simp (c .load-code-step .ensures, c .before .before .action7 .given .1, c .before .before .before .before .flag-effect .ensures)
 
 returns-8 : tie.Need-returns-8
 unfolding summaryOf
@@ -219,10 +216,9 @@ summary-of-spec =
     enum-known-action-5
     pop-summary-requires
     enum-known-action-6
-    code-access-requires
-    reaching-requires
+    load-code-requires
     enum-known-action-7
-    reaching-requires-2
+    load-code-step-requires
     enum-told
     forbidden-requires
     enum-known-action-8

@@ -1,0 +1,16 @@
+-- LDCI and LDCD store a byte of the range that their claims let them reach, and the pair.
+use borrow.Author.Needs.{needs}
+use Rattle.summary.proofs.load_code_step.Statement.{statement}
+use Rattle.summary.proofs.load_code_step.Tie as tie
+
+loaded-requires : tie.Need-loaded-requires
+loaded-requires c κs = search needs
+
+reaching-requires : tie.Need-reaching-requires
+reaching-requires c κs = search needs
+
+returns : tie.Need-returns
+returns c = rw (c .reaching .ensures, c .before .loaded .ensures)
+
+pub load-code-step-spec : {M : Type 1} → statement M
+load-code-step-spec = tie.close (tie.spec loaded-requires reaching-requires returns)
