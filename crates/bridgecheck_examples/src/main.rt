@@ -108,6 +108,15 @@ fn other_examples() {
     example_of_length(b"p_image.hex", b"p_cert.hex");
 }
 
+// The pointer of a logger comes from a ROM table; the same with one byte of the table too large.
+fn table_examples() {
+    example(b"linearised/image.hex", b"linearised/cert.hex");
+    example(
+        b"linearised_overrun/image.hex",
+        b"linearised_overrun/cert.hex",
+    );
+}
+
 // An image with one fault, told by its line.
 fn fault(image_name: &[u8]) {
     example(image_name, b"p_cert.hex");
@@ -250,6 +259,7 @@ fn main() {
     long_examples();
     field_examples();
     other_examples();
+    table_examples();
     example_of_texts();
     loop_idioms();
     nested_idioms();

@@ -100,6 +100,33 @@ fn put_bounds(cert: &mut [u8; CERTIFICATE_LENGTH]) {
     }
 }
 
+// JP, where the full program has CALL. CLR R2; 1,267 times LDC R4,@RR2 and NOP; JP to CLR. In their entries R2 is claimed 0 to 0FH and its low half, R3,
+// is not, so that each LDC reaches all of ROM; R4 is claimed 0 to 255. Entries of 0120H and 0FFBH, and the cells R2 and R4, of class 1 and writer limit 1.
+fn put_loads(image: &mut [u8; IMAGE_LENGTH], cert: &mut [u8; CERTIFICATE_LENGTH]) {
+    load(
+        image,
+        b":010103008D6E\n\
+          :02012000B0C26B\n\
+          :030FFB008D012045\n\
+          :00000001FF",
+    );
+    put_times(image, 0x122, b"\xC3\x42\xFF", 1267);
+    load(
+        cert,
+        b":0E0FC000010000000000FF0000FF0000FF0025\n\
+          :0EDFBA00010000000000FF0000FF0000FF005B\n\
+          :09E24600010100000000010100CB\n\
+          :00000001FF",
+    );
+    put_times(
+        cert,
+        14 * 0x122,
+        b"\x01\0\0\0\0\0\xC2\x00\x0F\xC4\x00\xFF\xFF\0\0\0\0\0\0\0\0\0\0\0\0\0\0\0\
+          \x01\0\0\0\0\0\xC2\x00\x0F\xC4\x00\xFF\xFF\0",
+        1267,
+    );
+}
+
 // JR to itself, where the full program has CALL.
 fn put_loop(image: &mut [u8; IMAGE_LENGTH]) {
     put(image, 0x103, b"\x8B\xFE");
@@ -134,12 +161,13 @@ fn count_of(what: u64) -> u64 {
     match what {
         1 => 100,
         2 => 10000,
+        4 => 1000,
         _ => 1000000,
     }
 }
 
 fn fill(what: u64, image: &mut [u8; IMAGE_LENGTH], cert: &mut [u8; CERTIFICATE_LENGTH]) {
-    if what < 3 {
+    if what != 3 {
         put_main(image, cert);
     }
     if what == 1 {
@@ -148,10 +176,13 @@ fn fill(what: u64, image: &mut [u8; IMAGE_LENGTH], cert: &mut [u8; CERTIFICATE_L
         put_bounds(cert);
     } else if what == 2 {
         put_loop(image);
+    } else if what == 4 {
+        put_loads(image, cert);
     }
 }
 
-// 1 is a full certificate of 1,508 entries, checked 100 times, 2 one of main and service alone, 10,000 times, 3 one of zeros, a million times.
+// 1 is a full certificate of 1,508 entries, checked 100 times, 2 one of main and service alone, 10,000 times, 3 one of zeros, a million times,
+// 4 a full one of 2,540 entries, of which 1,267 are of an LDC that reaches all of ROM, 1,000 times.
 pub fn work(what: u64) {
     let mut image = [255u8; IMAGE_LENGTH];
     let mut cert = [0u8; CERTIFICATE_LENGTH];

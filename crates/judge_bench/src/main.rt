@@ -3,10 +3,10 @@
 mod certificates;
 mod texts;
 
-// 1 to 3 are certificates, 4 to 6 HEX texts.
+// 1 to 4 are certificates, 5 to 7 HEX texts.
 fn work(what: u64) {
     test_support::print_number(what);
-    if what < 4 {
+    if what < 5 {
         certificates::work(what);
     } else {
         texts::work(what);
@@ -21,7 +21,7 @@ fn argument() -> u64 {
 
 // Two calls of `work`, as in `machine_bench`.
 fn main() {
-    let rows = test_support::rows_of(argument(), 6);
+    let rows = test_support::rows_of(argument(), 7);
     let last = rows.last;
     let mut what = rows.first;
     work(what);

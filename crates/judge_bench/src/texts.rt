@@ -40,7 +40,7 @@ fn stream(text: &[u8], buffer: &mut [u8]) -> u64 {
     answer_of(hex_text::finish(s, buffer.len()))
 }
 
-// Reads the whole text (4), reads it by feed and finish (5), or writes it.
+// Reads the whole text (5), reads it by feed and finish (6), or writes it.
 fn turn(
     what: u64,
     image: &[u8; IMAGE_LENGTH],
@@ -48,8 +48,8 @@ fn turn(
     buffer: &mut [u8; IMAGE_LENGTH],
 ) -> u64 {
     match what {
-        4 => answer_of(hex_text::read_text(text, buffer)),
-        5 => stream(text, buffer),
+        5 => answer_of(hex_text::read_text(text, buffer)),
+        6 => stream(text, buffer),
         _ => length_of(hex_write::write_image(image, text)),
     }
 }
@@ -84,12 +84,12 @@ fn tell(answer: u64, same: bool) {
     }
 }
 
-// 4 reads a whole text, 5 reads it by feed and finish, 6 writes it, each 20,000 times.
+// 5 reads a whole text, 6 reads it by feed and finish, 7 writes it, each 20,000 times.
 pub fn work(what: u64) {
     let image = image();
     let mut text = [0u8; TEXT_LENGTH];
     let mut buffer = [0u8; IMAGE_LENGTH];
-    turn(6, &image, &mut text, &mut buffer);
+    turn(7, &image, &mut text, &mut buffer);
     let answer = turns(what, &image, &mut text, &mut buffer, TURNS);
-    tell(answer, (what == 6) | same(&image, &buffer));
+    tell(answer, (what == 7) | same(&image, &buffer));
 }
