@@ -27,6 +27,7 @@ use Rattle.safety.specs.Rules.{noCell, ramEnd, Edge, onEdge, told, meets
 use Rattle.safety.specs.Rules.{startRule, writable, directWrite, reach, pointedWrite, Change, changeOf, narrowed, left, feasible, follows, claimFollows}
 use Rattle.safety.specs.Rules.{claimsFollow, isUnchanged, flagsFollow, compareFollows, firstValue, sameFirst, boundAlong, boundAfter, paid}
 use Rattle.safety.specs.Rules.Change.{unchanged, changed}
+use Rattle.safety.specs.CodeRangeLaws.{unclaimed}
 use Rattle.safety.specs.Invariant.{at, Registers, Claims, CompareHolds, firstNow, boundNow, Effect, FlagsAfter}
 use Rattle.safety.specs.Accepted.{Accepts}
 use Rattle.safety.specs.Facts.{EntryFacts, is-writable, rule20-facts}
@@ -77,15 +78,13 @@ in-range C t x v h1 h2 hv = go (eqb x (C .firstCell t)) refl (eqb x (C .secondCe
 -- a cell is claimed, or its range is 0 to 255
 pub free-range : (C : Certificate) (t x : ℕ)
     → ((x ≡ C .firstCell t) ⊎ (x ≡ C .secondCell t)) ⊎ ((low C t x ≡ 0) × (high C t x ≡ 255))
-unfolding low high
-free-range C t x = go (eqb x (C .firstCell t)) refl (eqb x (C .secondCell t)) refl
-  where
-    go : (b : Bool) → eqb x (C .firstCell t) ≡ b → (d : Bool) → eqb x (C .secondCell t) ≡ d
-        → ((x ≡ C .firstCell t) ⊎ (x ≡ C .secondCell t))
-        ⊎ ((pick b (C .firstLow t) (pick d (C .secondLow t) 0) ≡ 0) × (pick b (C .firstHigh t) (pick d (C .secondHigh t) 255) ≡ 255))
-    go true e d e2 = inl (inl (eqb→eq x (C .firstCell t) (of-true (eqb x (C .firstCell t)) e)))
-    go false e true e2 = inl (inr (eqb→eq x (C .secondCell t) (of-true (eqb x (C .secondCell t)) e2)))
-    go false e false e2 = inr (refl, refl)
+free-range C t x =
+    ⊎-elim (λ e. inl (inl e)) (λ n. ⊎-elim (λ e. inl (inr e)) (λ m. inr (unclaimed C t x n m)) (same? x (C .secondCell t))) (same? x (C .firstCell t))
+
+-- no cell behind RAM is claimed
+pub beyond-ram : (C : Certificate) (t x : ℕ) → EntryFacts C t → ramEnd ≤ x → x ≢ noCell → (low C t x ≡ 0) × (high C t x ≡ 255)
+beyond-ram C t x e h n =
+    unclaimed C t x (λ q. ⊎-elim (λ s. omega arith) (λ s. n (q ∙ s)) (e .firstCell)) (λ q. ⊎-elim (λ s. omega arith) (λ s. n (q ∙ s)) (e .secondCell))
 
 low-first : (C : Certificate) (t : ℕ) → low C t (C .firstCell t) ≡ C .firstLow t
 unfolding low
@@ -277,13 +276,7 @@ module _ (C : Certificate) (more : CertificateFacts C) (a : ℕ) (e : EntryFacts
         → (l ≤ at r′ x) × (at r′ x ≤ h)
     range-copy y x l h ny hl hh q =
         ⊎-elim
-        (λ (z : ramEnd ≤ y).
-        ⊎-elim
-        (λ p.
-        absurd
-        (⊎-elim (λ (c : y ≡ C .firstCell a). ⊎-elim (λ s. omega arith) (λ s. ny (c ∙ s)) (e .firstCell))
-        (λ (c : y ≡ C .secondCell a). ⊎-elim (λ s. omega arith) (λ s. ny (c ∙ s)) (e .secondCell)) p))
-        (λ p. (omega arith, omega (arith, regs′ .bytes x))) (free-range C a y))
+        (λ (z : ramEnd ≤ y). let p = beyond-ram C a y e z ny in (omega arith, omega (arith, regs′ .bytes x)))
         (λ (z : y < ramEnd).
         let c = cl y z in
         let s = q z in

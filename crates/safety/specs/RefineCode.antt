@@ -4,7 +4,7 @@ use mathlib.Core.Path.{_≡_, refl, sym, subst, _∙_, ap}
 use mathlib.Core.Logic.{_≢_, inl, inr, ⊎-elim}
 use mathlib.Core.Bool.{Bool, true, false, _||_}
 use mathlib.Core.List.{List}
-use Prim.Native.Nat.{ℕ, _+_, _-_, _*_, _/_, _%_, _≤_, _<_}
+use Prim.Native.Nat.{ℕ, _+_, _-_, _/_, _%_, _≤_, _<_}
 use native.Mathlib.Omega.{arith}
 use lib.Dec.{eqb, ltb, eqb→eq}
 use lib.ListN.{length, getD}
@@ -39,7 +39,7 @@ use Rattle.safety.specs.Memory.{Input, load-small, mapped-byte, store-re
 use Rattle.safety.specs.RefineOperands.{Written, claimed-ram, not-writable, register-written, refines-written, flags-kept}
 use Rattle.safety.specs.CodeRange.{loaded}
 use Rattle.safety.specs.CodeRangeLaws.{PairReaches, Reaches, reached-in-rom, loaded-holds}
-use Rattle.safety.specs.Edge.{free-range}
+use Rattle.safety.specs.Edge.{beyond-ram}
 use Rattle.safety.specs.StepRules.{StepRules}
 
 -- u stored at x, v at y, w at z
@@ -57,18 +57,15 @@ module _ (C : Certificate) (image : List ℕ) (gl : Global C image) (size : leng
   half-range q h =
       ⊎-elim
       (λ (g : ramEnd ≤ q).
-      ⊎-elim
-      (λ k.
-      absurd
-      (⊎-elim (λ (s : q ≡ C .firstCell a). ⊎-elim (λ z. omega arith) (λ z. omega arith) (e .firstCell))
-      (λ (s : q ≡ C .secondCell a). ⊎-elim (λ z. omega arith) (λ z. omega arith) (e .secondCell)) k))
-      (λ z. let b = load-small r rec (pre .registers) input q in (omega arith, omega arith)) (free-range C a q))
+      let z = beyond-ram C a q e g (λ n. omega arith) in
+      let b = load-small r rec (pre .registers) input q in
+      (omega arith, omega arith))
       (λ (l : q < ramEnd). let c = pre .claims q l in let v = load-ram r rec q l in (omega arith, omega arith)) (le? ramEnd q)
 
-  -- the word in a pair whose high half is claimed, by its halves
-  pair-word : (p : ℕ) → Holds (claimed C a p) → PairReaches C a p 0 0 (wordAt r rec p)
+  -- an address that is the word in a pair with its offset is one that the claims let the instruction reach
+  pair-reaches : (p up down t : ℕ) → Holds (claimed C a p) → t + down ≡ wordAt r rec p + up → PairReaches C a p up down t
   unfolding wordAt
-  pair-word p h =
+  pair-reaches p up down t h q =
       let l = claimed-ram C image gl a e p h in
       let k : (p + 1) % 256 ≡ p + 1 = omega arith in
       let x = half-range p (omega arith) in
@@ -80,35 +77,16 @@ module _ (C : Certificate) (image : List ℕ) (gl : Global C image) (size : leng
         upperHigh = x .1;
         lowerLow = y .0;
         lowerHigh = y .1;
-        is = rw k (omega arith);
+        is = q ∙ rw k refl;
       }
 
-  -- an address that is the word with its offset is reached
-  pair-reaches : {p up down t : ℕ} (w : PairReaches C a p 0 0 (wordAt r rec p)) → t + down ≡ wordAt r rec p + up → PairReaches C a p up down t
-  pair-reaches w q =
-      let i = w .is in
-      record {
-        upper = w .upper;
-        lower = w .lower;
-        upperLow = w .upperLow;
-        upperHigh = w .upperHigh;
-        lowerLow = w .lowerLow;
-        lowerHigh = w .lowerHigh;
-        is = omega arith;
-      }
-
-  -- where 24 holds, the address does not wrap: it is one that the claims let the instruction reach
+  -- where 24 holds it lies in ROM, so that the machine's modulo does nothing
   offset-reaches : (p : RegAddr) (up down : ℕ) → Holds (codeInRom C a (CodeAccess.Pair p up down)) → (t : ℕ)
       → (down ≤ wordAt r rec (p .0) + up → wordAt r rec (p .0) + up < romLength + down → t + down ≡ wordAt r rec (p .0) + up)
       → PairReaches C a (p .0) up down t
   offset-reaches p up down h t q =
-      let w = pair-word (p .0) (h .0) in
-      let i = w .is in
-      let ul = w .upperLow in
-      let uh = w .upperHigh in
-      let ll = w .lowerLow in
-      let lh = w .lowerHigh in
-      pair-reaches w (q (omega arith) (omega arith))
+      let w = pair-reaches (p .0) 0 0 (wordAt r rec (p .0)) (h .0) refl in
+      pair-reaches (p .0) up down t (h .0) (q (omega (arith, w)) (omega (arith, w)))
 
   short-reaches : (p : RegAddr) (x : ℕ) (b : Bool) → x < 256
       → Holds (codeInRom C a (pick b (CodeAccess.Pair p x 0) (CodeAccess.Pair p 0 (256 - x))))
@@ -123,7 +101,7 @@ module _ (C : Certificate) (image : List ℕ) (gl : Global C image) (size : leng
   code-reaches (Short p x) s h = short-reaches p x (ltb x 128) s h
   code-reaches (Long p x) s h = offset-reaches p x 0 h _ (λ l u. omega arith)
 
-  -- what is loaded from an address that is reached: the byte lies in ROM and in the range
+  -- an address that is reached lies in the image
   in-rom : (c : CodeAccess) → Holds (codeInRom C a c) → (t : ℕ) → Reaches C a c t → t < length image
   in-rom c h t k = omega (arith, reached-in-rom C a c h t k)
 
@@ -210,7 +188,7 @@ module _ (C : Certificate) (image : List ℕ) (gl : Global C image) (size : leng
       let h = rules .r24 .1 .1 .1 in
       let c = CodeAccess.Pair p 0 0 in
       let A = wordAt r rec (p .0) in
-      let k = pair-word (p .0) (h .0) in
+      let k = pair-reaches (p .0) 0 0 A (h .0) refl in
       let hA = in-rom c h A k in
       let v = getD image A 0 in
       let g = loaded-holds C image a size c h A k in
