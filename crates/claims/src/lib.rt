@@ -67,7 +67,7 @@ pub fn high_in(n: Entry, x: RegAddr) -> u8
 }
 
 // The range of the cell behind p, the low half of a pair; behind FFH stands none, and 0 to 255 counts.
-pub fn second_low(n: Entry, p: RegAddr) -> u8
+pub fn second_half_low(n: Entry, p: RegAddr) -> u8
     ensures { λ r. ⌜ ((C : Certificate) (a : ℕ) → n ≡ entryOf C a → r ≡ Rattle.safety.specs.Rules.low C a (p .0 + 1)) ⌝ }
 {
     if p.0 == 255 {
@@ -76,7 +76,7 @@ pub fn second_low(n: Entry, p: RegAddr) -> u8
     low_in(n, RegAddr(p.0 + 1))
 }
 
-pub fn second_high(n: Entry, p: RegAddr) -> u8
+pub fn second_half_high(n: Entry, p: RegAddr) -> u8
     ensures { λ r. ⌜ ((C : Certificate) (a : ℕ) → n ≡ entryOf C a → r ≡ Rattle.safety.specs.Rules.high C a (p .0 + 1)) ⌝ }
 {
     if p.0 == 255 {
@@ -236,7 +236,7 @@ fn pointed_at(n: Entry, p: RegAddr, o: u8, x: RegAddr) -> bool
     (from <= at) & (at <= upto)
 }
 
-// What a write to register y, a byte of q, and then to both halves of pair p may leave in cell x: the pair is known of no cell.
+// What a write to register y, a byte of q, and then to both halves of pair p may leave in cell x. Of both halves nothing is known, also where one is y.
 fn pair_change(y: RegAddr, q: Range, p: RegAddr, x: RegAddr) -> Change
     ensures { λ r. ⌜ ((C : Certificate) (a : ℕ) → changeIn r ≡ changeOf C a (Write.RegisterAndPair y q p) (x .0)) ⌝ }
 {

@@ -68,30 +68,30 @@ fn value_count(low: u8, high: u8) -> u16
     if above < low { 0 } else { above - low }
 }
 
-// The lowest address that a pair reaches, its halves being at least high and low.
-fn lowest_address(high: u8, low: u8, up: u16, down: u16) -> u32
-    ensures { λ r. ⌜ r ≡ high * 256 + low + up - down ⌝ }
+// The lowest address that a pair reaches whose halves are at least upper and lower.
+fn lowest_address(upper: u8, lower: u8, up: u16, down: u16) -> u32
+    ensures { λ r. ⌜ r ≡ upper * 256 + lower + up - down ⌝ }
 {
-    let at = high as u32 * 256 + low as u32 + up as u32;
+    let at = upper as u32 * 256 + lower as u32 + up as u32;
     let down = down as u32;
     if at < down { 0 } else { at - down }
 }
 
 // The range of what a pair reaches by the claims on both of its halves.
 fn pair_range(image: &[u8], cert: &[u8], a: RomAddr, p: RegAddr, up: u16, down: u16) -> Range
-    ensures { λ r. ⌜ r ≡ Rattle.safety.specs.CodeRange.loaded (certificateOf (now (cert .entry))) (now (image .entry)) (a .0) (CodeAccess.Pair p up down) ⌝ }
+    ensures { λ r. ⌜ r ≡ Rattle.safety.specs.CodeRange.loadRange (certificateOf (now (cert .entry))) (now (image .entry)) (a .0) (CodeAccess.Pair p up down) ⌝ }
 {
     let e = entries::entry_of(entries::entry_part(cert, a));
-    let high = claims::low_in(e, p);
-    let low = claims::second_low(e, p);
-    let rows = value_count(high, claims::high_in(e, p));
-    let width = value_count(low, claims::second_high(e, p));
-    rows_range(image, rows, lowest_address(high, low, up, down), width)
+    let upper = claims::low_in(e, p);
+    let lower = claims::second_half_low(e, p);
+    let rows = value_count(upper, claims::high_in(e, p));
+    let width = value_count(lower, claims::second_half_high(e, p));
+    rows_range(image, rows, lowest_address(upper, lower, up, down), width)
 }
 
 // The range of the bytes that the instruction at a can load.
-pub fn loaded(image: &[u8], cert: &[u8], a: RomAddr, c: CodeAccess) -> Range
-    ensures { λ r. ⌜ r ≡ Rattle.safety.specs.CodeRange.loaded (certificateOf (now (cert .entry))) (now (image .entry)) (a .0) c ⌝ }
+pub fn load_range(image: &[u8], cert: &[u8], a: RomAddr, c: CodeAccess) -> Range
+    ensures { λ r. ⌜ r ≡ Rattle.safety.specs.CodeRange.loadRange (certificateOf (now (cert .entry))) (now (image .entry)) (a .0) c ⌝ }
 {
     match c {
         CodeAccess::Nothing => Range {

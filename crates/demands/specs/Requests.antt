@@ -1,6 +1,6 @@
 -- The requests of document 02 that have landed, word for word, with what each states as a theorem over the definitions.
 -- Assumes nothing.
-use Prim.Native.Nat.{ℕ, _+_, _-_, _*_, _/_, _%_, _^_, _≤_, _<_}
+use Prim.Native.Nat.{ℕ, _+_, _-_, _/_, _%_, _^_, _≤_, _<_}
 use mathlib.Core.Path.{_≡_}
 use mathlib.Core.Bool.{Bool, true, false, _||_}
 use mathlib.Core.Logic.{_≢_, _⊎_}
@@ -49,9 +49,10 @@ use Rattle.certificate.specs.Layout.{Certificate, certificateOf}
 use Rattle.certificate.specs.Summaries.{range, codeAccess}
 use Rattle.safety.specs.Rules.{noCell, ramEnd, Edge, low, high, codeInRom, changeOf, edge26, rule26}
 use Rattle.safety.specs.Rules.Change.{changed}
-use Rattle.safety.specs.CodeRange.{loaded}
-use Rattle.safety.specs.CodeRangeLaws.{Reaches as CodeReaches, ReachedByte, reached-in-rom, whole-set-in-rom, unclaimed, loaded-holds, loaded-least, loaded-greatest, loaded-direct}
-use Rattle.safety.specs.CodeLoads.{destination-of-load, destination-of-step, pair-of-step}
+use Rattle.safety.specs.CodeRange.{loadRange}
+use Rattle.safety.specs.CodeRangeLaws.{Reaches as CodeReaches, ReachedByte, SetInRom, set-in-rom, whole-set-in-rom, unclaimed}
+use Rattle.safety.specs.CodeRangeLaws.{loaded-holds, loaded-least, loaded-greatest, loaded-direct}
+use Rattle.safety.specs.CodeLoads.{code-of-load, code-of-step, destination-of-load, destination-of-step, pair-of-step}
 use Rattle.safety.specs.Verdicts.{summaryAt, verdictOf}
 use Rattle.safety.specs.Formerly as formerly
 use Rattle.safety.specs.Formerly.{verdictFormerly}
@@ -350,15 +351,15 @@ refused-before = upper.refused-before
 -- LDCD the pair itself counts as 0 to 255 afterwards, and so does a destination that belongs to the pair. 24 tests this same set in place of the high
 -- half alone. An old certificate that was accepted stays accepted --
 
--- `CodeReaches C a c t` (`Reaches` of S`CodeRangeLaws`) says that t is in the set: 256 × h + l + offset, h and l over the ranges of both halves at a (`low`, `high`). `loaded` is the range. Where
--- 24 holds every byte that is reached lies in it
+-- `CodeReaches C a c t` (`Reaches` of `safety` S`CodeRangeLaws`) says that t is in the set: 256 × h + l + offset, h and l over the ranges of both halves at a
+-- (`low`, `high`). `loadRange` is the range of its bytes. Where 24 holds every byte that is reached lies in it
 pub reached-byte-in-range : (C : Certificate) (image : List ℕ) (a : ℕ) → length image ≡ romLength → (c : CodeAccess) → Holds (codeInRom C a c)
-    → (t : ℕ) → CodeReaches C a c t → (loaded C image a c .least ≤ getD image t 0) × (getD image t 0 ≤ loaded C image a c .greatest)
+    → (t : ℕ) → CodeReaches C a c t → (loadRange C image a c .least ≤ getD image t 0) × (getD image t 0 ≤ loadRange C image a c .greatest)
 reached-byte-in-range = loaded-holds
 
 -- and both its ends are bytes that are reached, so they are the least and the greatest
 pub range-ends-reached : (C : Certificate) (image : List ℕ) (a : ℕ) → length image ≡ romLength → Bytes image → (c : CodeAccess) → Holds (codeInRom C a c)
-    → (t : ℕ) → CodeReaches C a c t → ReachedByte C image a c (loaded C image a c .least) × ReachedByte C image a c (loaded C image a c .greatest)
+    → (t : ℕ) → CodeReaches C a c t → ReachedByte C image a c (loadRange C image a c .least) × ReachedByte C image a c (loadRange C image a c .greatest)
 range-ends-reached C image a full bytes c h t r = (loaded-least C image a full bytes c h t r, loaded-greatest C image a full bytes c h t r)
 
 -- a half without a claim counts as 0 to 255
@@ -367,19 +368,19 @@ half-without-claim = unclaimed
 
 -- a direct address reaches its one byte
 pub direct-address : (C : Certificate) (image : List ℕ) (a : ℕ) → length image ≡ romLength → Bytes image → (t : RomAddr) → t .0 < romLength
-    → loaded C image a (CodeAccess.Direct t) ≡ range (getD image (t .0) 0) (getD image (t .0) 0)
+    → loadRange C image a (CodeAccess.Direct t) ≡ range (getD image (t .0) 0) (getD image (t .0) 0)
 direct-address = loaded-direct
 
 -- the destination of LDC gets that range: rule 26 goes by `changeOf`
 pub destination-ranged : (C : Certificate) (image : List ℕ) (a : ℕ) (d : Instruction × ℕ × FlagSet) → decodeAt image a ≡ value d
     → (r : RegAddr) (c : CodeAddress) → actionOf (d .0) (romAddr ((a + d .1) % 65536)) ≡ Action.LoadCode r c
-    → changeOf C a (summaryAt C image a .write) (r .0) ≡ changed (Within (loaded C image a (codeAccess c)))
+    → changeOf C a (summaryAt C image a .write) (r .0) ≡ changed (Within (loadRange C image a (codeAccess c)))
 destination-ranged = destination-of-load
 
 -- of LDCI and LDCD too, unless it belongs to the pair
 pub stepped-destination-ranged : (C : Certificate) (image : List ℕ) (a : ℕ) (d : Instruction × ℕ × FlagSet) → decodeAt image a ≡ value d
     → (r p : RegAddr) (up : Bool) → actionOf (d .0) (romAddr ((a + d .1) % 65536)) ≡ Action.LoadCodeStep r p up → r .0 ≢ p .0 → r .0 ≢ p .0 + 1
-    → changeOf C a (summaryAt C image a .write) (r .0) ≡ changed (Within (loaded C image a (CodeAccess.Pair p 0 0)))
+    → changeOf C a (summaryAt C image a .write) (r .0) ≡ changed (Within (loadRange C image a (CodeAccess.Pair p 0 0)))
 stepped-destination-ranged = destination-of-step
 
 -- both halves of the pair, and so a destination that is one of them, count as 0 to 255 afterwards
@@ -388,15 +389,23 @@ pub stepped-pair-unknown : (C : Certificate) (image : List ℕ) (a : ℕ) (d : I
     → changeOf C a (summaryAt C image a .write) x ≡ changed Unknown
 stepped-pair-unknown = pair-of-step
 
--- 24 tests this same set: where it holds, all of it lies in ROM
-pub set-lies-in-rom : (C : Certificate) (a : ℕ) (c : CodeAccess) → Holds (codeInRom C a c) → (t : ℕ) → CodeReaches C a c t → t < romLength
-set-lies-in-rom = reached-in-rom
+-- 24 tests this same set: of the instruction it reads the access of which the destination gets the range
+pub load-tested : (C : Certificate) (image : List ℕ) (a : ℕ) (d : Instruction × ℕ × FlagSet) → decodeAt image a ≡ value d
+    → (r : RegAddr) (c : CodeAddress) → actionOf (d .0) (romAddr ((a + d .1) % 65536)) ≡ Action.LoadCode r c → summaryAt C image a .code ≡ codeAccess c
+load-tested = code-of-load
 
--- and where all of it lies in ROM, it holds. The pairs are working registers, and down is at most 128
+pub step-tested : (C : Certificate) (image : List ℕ) (a : ℕ) (d : Instruction × ℕ × FlagSet) → decodeAt image a ≡ value d
+    → (r p : RegAddr) (up : Bool) → actionOf (d .0) (romAddr ((a + d .1) % 65536)) ≡ Action.LoadCodeStep r p up
+    → summaryAt C image a .code ≡ CodeAccess.Pair p 0 0
+step-tested = code-of-step
+
+-- where it holds, every sum of values of both halves and the offset is an address of ROM (`SetInRom`), none of them negative
+pub set-lies-in-rom : (C : Certificate) (a : ℕ) (p : RegAddr) (up down : ℕ) → Holds (codeInRom C a (CodeAccess.Pair p up down)) → SetInRom C a (p .0) up down
+set-lies-in-rom = set-in-rom
+
+-- and where they all are, it holds. The pairs are working registers, and down is at most 128
 pub rom-holds-the-set : (C : Certificate) (a : ℕ) (p : RegAddr) (up down : ℕ) → p .0 < ramEnd → down < 256
-    → low C a (p .0) ≤ high C a (p .0) → low C a (p .0 + 1) ≤ high C a (p .0 + 1)
-    → ((h l : ℕ) → low C a (p .0) ≤ h → h ≤ high C a (p .0) → low C a (p .0 + 1) ≤ l → l ≤ high C a (p .0 + 1)
-    → (down ≤ h * 256 + l + up) × (h * 256 + l + up < romLength + down))
+    → low C a (p .0) ≤ high C a (p .0) → low C a (p .0 + 1) ≤ high C a (p .0 + 1) → SetInRom C a (p .0) up down
     → Holds (codeInRom C a (CodeAccess.Pair p up down))
 rom-holds-the-set = whole-set-in-rom
 

@@ -48,7 +48,7 @@ use Rattle.safety.specs.Rules.{noCell, present, Edge, plainEdge, feasible, call
 use Rattle.safety.specs.Invariant.{Shaped}
 use Rattle.safety.specs.DecodedShape.{decoded-shaped}
 use Rattle.safety.specs.Transfers.{is-call}
-use Rattle.safety.specs.CodeRange.{loaded}
+use Rattle.safety.specs.CodeRange.{loadRange}
 use Rattle.safety.specs.Verdicts.{summaryFrom, summaryAt}
 
 some-or-none : (b : ℕ) → b < 256
@@ -181,9 +181,9 @@ module _ (C : Certificate) (image : List ℕ) (a : ℕ) (d : Instruction × ℕ 
     pub compare : Holds (present (C .compareCell t)) → Survives t
 
   module _ (bytes : Bytes image) (found : decodeAt image a ≡ value d) where
-    summary-there : summaryAt C image a ≡ summaryOf (loaded C image a) actionThere (d .2)
+    summary-there : summaryAt C image a ≡ summaryOf (loadRange C image a) actionThere (d .2)
     unfolding summaryAt summaryFrom
-    summary-there = ap (λ (o : Outcome (Instruction × ℕ × FlagSet)). summaryFrom (loaded C image a) o a) found
+    summary-there = ap (λ (o : Outcome (Instruction × ℕ × FlagSet)). summaryFrom (loadRange C image a) o a) found
 
     -- naming no flag, by the byte of the set
     none-if-unnamed : ((g : Flag) → flagIn g (d .2 .0) ≡ false) → d .2 .0 ≡ 0
@@ -196,7 +196,7 @@ module _ (C : Certificate) (image : List ℕ) (a : ℕ) (d : Instruction × ℕ 
       left-there : LeftBy actionThere (d .2) (summaryAt C image a .flags)
       left-there =
           subst (λ (S : Summary). LeftBy actionThere (d .2) (S .flags)) (sym summary-there)
-          (left-by (loaded C image a) actionThere (d .2) (subst Stays (ap (λ (S : Summary). S .flow) summary-there) stays))
+          (left-by (loadRange C image a) actionThere (d .2) (subst Stays (ap (λ (S : Summary). S .flow) summary-there) stays))
 
       -- rule 26 lets a compare stand behind the instruction that makes it, and behind those that it survives
       follows-only : (t : ℕ) → Holds (compareFollows C a (summaryAt C image a .write) (summaryAt C image a .flags) t) → Holds (present (C .compareCell t))
@@ -217,7 +217,7 @@ module _ (C : Certificate) (image : List ℕ) (a : ℕ) (d : Instruction × ℕ 
           let c = Action.Binary Cp (Register (m .register)) (Immediate (C .compareNumber t)) in
           let all = subst (λ (x : Action). Shaped (d .2) x) (m .compares) (decoded-shaped image bytes a d found (romAddr ((a + d .1) % 65536))) .1 refl in
           ap (λ (S : Summary). S .flags) summary-there
-          ∙ (ap (λ (x : Action). summaryOf (loaded C image a) x (d .2) .flags) (m .compares) ∙ ap (λ (ns : FlagSet). summaryOf (loaded C image a) c ns .flags) all)
+          ∙ (ap (λ (x : Action). summaryOf (loadRange C image a) x (d .2) .flags) (m .compares) ∙ ap (λ (ns : FlagSet). summaryOf (loadRange C image a) c ns .flags) all)
 
       kept-flags : (f : FlagEffect) → LeftBy actionThere (d .2) f → d .2 .0 ≡ 0 → f ≡ Kept
       kept-flags Kept l z = refl
@@ -249,13 +249,13 @@ module _ (C : Certificate) (image : List ℕ) (a : ℕ) (d : Instruction × ℕ 
         t = to .0
 
         call : actionThere ≡ Action.Call to
-        call = is-call (loaded C image a) actionThere (d .2) to (sym (ap (λ (S : Summary). S .flow) summary-there) ∙ flow)
+        call = is-call (loadRange C image a) actionThere (d .2) to (sym (ap (λ (S : Summary). S .flow) summary-there) ∙ flow)
 
         stays : Stays (summaryAt C image a .flow)
         stays = subst Stays (sym flow) tt
 
         unwritten : summaryAt C image a .write ≡ Write.Nothing
-        unwritten = ap (λ (S : Summary). S .write) (summary-there ∙ ap (λ (x : Action). summaryOf (loaded C image a) x (d .2)) call)
+        unwritten = ap (λ (S : Summary). S .write) (summary-there ∙ ap (λ (x : Action). summaryOf (loadRange C image a) x (d .2)) call)
 
         CompareFollows : Write → Type 0
         CompareFollows w = Holds (compareFollows C a w (summaryAt C image a .flags) t)

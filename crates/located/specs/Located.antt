@@ -11,7 +11,7 @@ use Rattle.certificate.specs.declared.Range.{Range}
 use Rattle.certificate.specs.declared.CodeAccess.{CodeAccess}
 use Rattle.certificate.specs.Layout.{Certificate}
 use Rattle.certificate.specs.Summaries.{forbidden}
-use Rattle.safety.specs.CodeRange.{loaded}
+use Rattle.safety.specs.CodeRange.{loadRange}
 use Rattle.safety.specs.Verdicts.{summaryFrom, sizeFrom}
 use Rattle.located.specs.declared.Located.{Located}
 
@@ -24,4 +24,4 @@ unfoldable pub locatedIn : (CodeAccess → Range) → Outcome (Instruction × �
 locatedIn load d a = record { summary = summaryFrom load d a; next = romAddr ((a + sizeFrom d) % 65536) }
 
 abbrev pub locatedAt : Certificate → List ℕ → ℕ → Located
-locatedAt C image a = locatedIn (loaded C image a) (decodeAt image a) a
+locatedAt C image a = locatedIn (loadRange C image a) (decodeAt image a) a

@@ -2,7 +2,7 @@
 ghost use mathlib.Core.Path.{_≡_};
 ghost use Rattle.base.specs.Outcome.Outcome.{value};
 ghost use Rattle.certificate.specs.Layout.{certificateOf};
-ghost use Rattle.safety.specs.CodeRange.{loaded};
+ghost use Rattle.safety.specs.CodeRange.{loadRange};
 ghost use Rattle.safety.specs.Verdicts.{costAt};
 ghost use Rattle.located.specs.Located.{noneAt, locatedIn, locatedAt};
 use base::RomAddr;
@@ -37,7 +37,7 @@ fn decoded_at(
     names: FlagSet,
     a: RomAddr,
 ) -> Located
-    ensures { λ r. ⌜ r ≡ locatedIn (loaded (certificateOf (now (cert .entry))) (now (image .entry)) (a .0)) (value (i, n, names)) (a .0) ⌝ }
+    ensures { λ r. ⌜ r ≡ locatedIn (loadRange (certificateOf (now (cert .entry))) (now (image .entry)) (a .0)) (value (i, n, names)) (a .0) ⌝ }
 {
     let next = RomAddr(std::num::wrapping_add_u16(a.0, n as u16));
     let act = action::action_of(i, next);

@@ -7,11 +7,9 @@ use Prim.Native.Nat.{ℕ, _-_, _≤_}
 use Prim.Native.Char.{code}
 use Prim.Native.String.{String}
 use Prim.Native.String as text
-use borrow.Author.Tests.{le-leb}
-use lib.Dec.{T, leb}
+use lib.Dec.{T}
 use lib.ListN.{length, getD, replicate, set}
 use Rattle.base.specs.Addresses.{romAddr, spCell}
-use Rattle.base.specs.ChoiceLaws.{choose-other}
 use Rattle.base.specs.Formula.{decide}
 use Rattle.base.specs.Lengths.{romLength, recordLength}
 use Rattle.isa.specs.declared.Alu.{Alu}
@@ -31,6 +29,7 @@ use Rattle.certificate.specs.declared.Verdict.the-variants.{Accepted, Refused}
 use Rattle.certificate.specs.Layout.{Certificate, certificateOf}
 use Rattle.safety.specs.Verdicts.{rulesAt, scan, verdictOf}
 use Rattle.report.specs.Report.{reportText}
+use Rattle.logger_cases.specs.Gathered.{listed-none}
 use Rattle.logger_cases.specs.Computed.{layout, tables, certificate-tables, verdict-tables}
 use Rattle.logger_cases.specs.Program.{imageWith, entries, entry, cell, row, certificateWith, entry-length, cell-length, row-length}
 use Rattle.logger_cases.specs.Opened.{opened}
@@ -130,7 +129,7 @@ codeEnd = 0x141
 
 none-behind : (a : ℕ) → codeEnd ≤ a → entry a ≡ replicate 14 0
 unfolding entry
-none-behind a h = choose-other (leb codeEnd) a entries (replicate 14 0) (le-leb codeEnd a h) refl
+none-behind = listed-none 14 entries codeEnd refl
 
 -- the certificate by tables
 abbrev tablesP : ℕ → ℕ → Certificate

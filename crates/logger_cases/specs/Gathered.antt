@@ -3,13 +3,14 @@
 use mathlib.Core.Path.{_≡_, refl, sym, _∙_, ap, fun-ext}
 use mathlib.Core.Bool.{Bool, true, false, _&&_}
 use mathlib.Core.List.{List, [], _∷_, _++_, append-assoc}
-use Prim.Native.Nat.{ℕ, zero, suc, _+_, _*_, _<_}
+use Prim.Native.Nat.{ℕ, zero, suc, _+_, _*_, _≤_, _<_}
 use native.Mathlib.Omega.{arith}
-use lib.Dec.{T, eqb, ltb, ltb→lt}
+use borrow.Author.Tests.{le-leb}
+use lib.Dec.{T, eqb, leb, ltb, ltb→lt}
 use lib.ListN.{length, getD, take, drop, replicate, length-append, length-replicate}
 use lib.Seq.{drop-drop, drop-at, take-at, getD-drop}
 use Rattle.base.specs.Choice.{pick, choose}
-use Rattle.base.specs.ChoiceLaws.{pick-has}
+use Rattle.base.specs.ChoiceLaws.{pick-has, fails, choose-other}
 use Rattle.base.specs.Formula.{of-true, sound, test, eq, _&_}
 use Rattle.base.specs.Lengths.{romLength, certificateLength}
 use Rattle.certificate.specs.Layout.{certificateFrom, part, certificateOf}
@@ -37,6 +38,10 @@ listed-length w [] t k = length-replicate w 0
 listed-length w (e ∷ rows) t k =
     let f = sound (eq (length (e .1)) w & test (fit w rows)) t in
     pick-has (λ (l : List ℕ). length l ≡ w) (eqb k (e .0)) (e .1) (listed w rows k) (λ _. f .0) (λ _. listed-length w rows (of-true (fit w rows) (f .1)) k)
+
+-- from n on no row is listed
+pub listed-none : (w : ℕ) (rows : List (ℕ × List ℕ)) (n : ℕ) → fails (leb n) rows ≡ true → (k : ℕ) → n ≤ k → listed w rows k ≡ replicate w 0
+listed-none w rows n f k h = choose-other (leb n) k rows (replicate w 0) (le-leb n k h) f
 
 module _ (w : ℕ) (f : ℕ → List ℕ) (wide : (k : ℕ) → length (f k) ≡ w) where
   pub gathered-length : (n a : ℕ) → length (gathered n a f) ≡ w * n

@@ -3,12 +3,10 @@
 use mathlib.Core.Path.{_≡_, refl}
 use mathlib.Core.List.{List, [], _∷_, _++_, map}
 use Prim.Native.Nat.{ℕ, _-_, _≤_}
-use borrow.Author.Tests.{le-leb}
-use lib.Dec.{T, leb}
+use lib.Dec.{T}
 use lib.ListN.{length, replicate}
 use Rattle.base.specs.Addresses.{romAddr}
 use Rattle.base.specs.Choice.{from}
-use Rattle.base.specs.ChoiceLaws.{choose-other}
 use Rattle.base.specs.Formula.{decide}
 use Rattle.base.specs.Lengths.{romLength}
 use Rattle.certificate.specs.declared.Verdict.{Verdict}
@@ -16,7 +14,7 @@ use Rattle.certificate.specs.declared.Verdict.the-variants.{Accepted, Refused}
 use Rattle.certificate.specs.Layout.{Certificate}
 use Rattle.safety.specs.Verdicts.{Rules, rulesAt, scanBy, verdictBy, verdictOf}
 use Rattle.safety.specs.Formerly.{formerRules, verdictFormerly}
-use Rattle.logger_cases.specs.Gathered.{listed, listed-length, certificateBytes}
+use Rattle.logger_cases.specs.Gathered.{listed, listed-length, listed-none, certificateBytes}
 use Rattle.logger_cases.specs.Computed.{layout, tables, verdict-tables}
 use Rattle.logger_cases.specs.Opened.{opened}
 
@@ -93,7 +91,7 @@ codeEnd = 0x141
 
 none-behind : (a : ℕ) → codeEnd ≤ a → entry a ≡ replicate 14 0
 unfolding entry
-none-behind a h = choose-other (leb codeEnd) a entries (replicate 14 0) (le-leb codeEnd a h) refl
+none-behind = listed-none 14 entries codeEnd refl
 
 abbrev judged : Certificate
 judged = tables entry cell row 0xA0 entry-length cell-length row-length

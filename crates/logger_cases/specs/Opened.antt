@@ -8,7 +8,7 @@ use Rattle.safety.specs.Rules.{meets, low, high, claimed, boundAt, worst, used,
 use Rattle.safety.specs.Rules.{entryRule, addressRule, startRule, bareRule, rule21, rule22, rule23, rule24, rule25, rule26, rule27}
 use Rattle.safety.specs.Rules.{successor, callTarget, writable, reach, callDepth, narrowed, left, feasible, claimFollows, compareFollows}
 use Rattle.safety.specs.Rules.{edge26, survives, call26, firstValue, sameFirst, boundAfter, boundAfterCall, paid, edge27, rowRule}
-use Rattle.safety.specs.CodeRange.{widened, rowsFrom, loaded}
+use Rattle.safety.specs.CodeRange.{widened, rowsFrom, loadRange}
 use Rattle.safety.specs.Verdicts.{summaryFrom, summaryAt, nextAt, costAt, rulesWith, firstBroken, numberBy, scanBy, verdictOnBy}
 use Rattle.rule20.specs.Parts.{cellsRule, startsRule, mainRule, serviceRule, fixedRule}
 use Rattle.report.specs.Report.{decimal, numberText, rowText, rowsText, acceptedText, refusedText}
@@ -28,7 +28,7 @@ unfolding meets rule21 rule22 rule23 rule24 rule25 rule26 rule27 successor callT
 rulesOpened = 0
 
 unfoldable boundsOpened : ℕ
-unfolding firstValue sameFirst boundAfter boundAfterCall paid edge27 rowRule summaryFrom summaryAt nextAt costAt rulesWith firstBroken numberBy scanBy verdictOnBy widened rowsFrom loaded
+unfolding firstValue sameFirst boundAfter boundAfterCall paid edge27 rowRule summaryFrom summaryAt nextAt costAt rulesWith firstBroken numberBy scanBy verdictOnBy widened rowsFrom loadRange
 boundsOpened = 0
 
 -- what is printed, and image P

@@ -37,5 +37,5 @@ module _ (C : Certificate) (image : List ℕ) (a : ℕ) where
       rowsFrom image (valueCount (p .0)) (low C a (p .0) * 256 + low C a (p .0 + 1) + up - down) (valueCount (p .0 + 1))
 
   -- the least and the greatest of them, for the whole set together; where 24 holds they all lie in ROM
-  unfoldable pub loaded : CodeAccess → Range
-  loaded c = widened noByte (reachedBytes c)
+  unfoldable pub loadRange : CodeAccess → Range
+  loadRange c = widened noByte (reachedBytes c)

@@ -1,4 +1,4 @@
--- Request 14: the set that LDC, LDCI and LDCD reach, in the request's words. Rule 24 tests that it lies in ROM, and `loaded` is the least and the
+-- Request 14: the set that LDC, LDCI and LDCD reach, in the request's words. Rule 24 tests that it lies in ROM, and `loadRange` is the least and the
 -- greatest of its bytes.
 -- Assumes nothing.
 use Prim.Native.Nat.{ℕ, zero, suc, _+_, _-_, _*_, _≤_, _<_, min, max}
@@ -20,7 +20,7 @@ use Rattle.certificate.specs.declared.CodeAccess.{CodeAccess}
 use Rattle.certificate.specs.Layout.{Certificate}
 use Rattle.certificate.specs.Summaries.{range}
 use Rattle.safety.specs.Rules.{ramEnd, low, high, claimed, codeInRom}
-use Rattle.safety.specs.CodeRange.{widened, noByte, rowsFrom, reachedBytes, loaded}
+use Rattle.safety.specs.CodeRange.{widened, noByte, rowsFrom, reachedBytes, loadRange}
 
 -- an address that LDC at a reaches from a pair: 256 × h + l + offset, h and l over the ranges of both halves
 pub record PairReaches (C : Certificate) (a p up down t : ℕ) : Type 0 where
@@ -39,7 +39,17 @@ module _ (C : Certificate) (a : ℕ) where
   Reaches (CodeAccess.Direct d) t = t ≡ d .0
   Reaches (CodeAccess.Pair p up down) t = PairReaches C a (p .0) up down t
 
-  -- where 24 holds, every address that is reached lies in ROM
+  -- every sum of values of both halves and the offset is an address of ROM, none of them negative
+  abbrev pub SetInRom : ℕ → ℕ → ℕ → Type 0
+  SetInRom p up down =
+      (h l : ℕ) → low C a p ≤ h → h ≤ high C a p → low C a (p + 1) ≤ l → l ≤ high C a (p + 1)
+      → (down ≤ h * 256 + l + up) × (h * 256 + l + up < romLength + down)
+
+  -- where 24 holds, the whole set lies in ROM
+  pub set-in-rom : (p : RegAddr) (up down : ℕ) → Holds (codeInRom C a (CodeAccess.Pair p up down)) → SetInRom (p .0) up down
+  set-in-rom p up down h u v e f g i = (omega arith, omega arith)
+
+  -- so every address that is reached does
   pub reached-in-rom : (c : CodeAccess) → Holds (codeInRom C a c) → (t : ℕ) → Reaches c t → t < romLength
   reached-in-rom CodeAccess.Nothing h t r = absurd r
   reached-in-rom (CodeAccess.Direct d) h t r = omega arith
@@ -50,11 +60,9 @@ module _ (C : Certificate) (a : ℕ) where
   unfolding low high
   unclaimed x n m = rw (eqb-no n, eqb-no m) (refl, refl)
 
-  -- and 24 asks no more: it holds where the whole set lies in ROM. The high half is then claimed, since 255 × 256 does not lie there
+  -- 24 asks no more: it holds where the whole set lies in ROM. The high half is then claimed, since 255 × 256 does not lie there
   pub whole-set-in-rom : (p : RegAddr) (up down : ℕ) → p .0 < ramEnd → down < 256
-      → low C a (p .0) ≤ high C a (p .0) → low C a (p .0 + 1) ≤ high C a (p .0 + 1)
-      → ((h l : ℕ) → low C a (p .0) ≤ h → h ≤ high C a (p .0) → low C a (p .0 + 1) ≤ l → l ≤ high C a (p .0 + 1)
-      → (down ≤ h * 256 + l + up) × (h * 256 + l + up < romLength + down))
+      → low C a (p .0) ≤ high C a (p .0) → low C a (p .0 + 1) ≤ high C a (p .0 + 1) → SetInRom (p .0) up down
       → Holds (codeInRom C a (CodeAccess.Pair p up down))
   unfolding claimed
   whole-set-in-rom p up down r d u v f =
@@ -136,7 +144,7 @@ module _ (C : Certificate) (image : List ℕ) (a : ℕ) where
   abbrev pub ReachedByte : CodeAccess → ℕ → Type 0
   ReachedByte c v = (s : ℕ) × (Reaches C a c s × (getD image s 0 ≡ v))
 
-  -- the list of which `loaded` is the range holds every byte that is reached
+  -- the list of which `loadRange` is the range holds every byte that is reached
   reached-member : length image ≡ romLength → (c : CodeAccess) → Holds (codeInRom C a c) → (t : ℕ) → Reaches C a c t
       → List·Memᴰ (getD image t 0) (reachedBytes C image a c)
   reached-member full CodeAccess.Nothing h t r = absurd r
@@ -162,14 +170,14 @@ module _ (C : Certificate) (image : List ℕ) (a : ℕ) where
 
   -- every byte that is reached lies in the range
   pub loaded-holds : length image ≡ romLength → (c : CodeAccess) → Holds (codeInRom C a c) → (t : ℕ) → Reaches C a c t
-      → (loaded C image a c .least ≤ getD image t 0) × (getD image t 0 ≤ loaded C image a c .greatest)
-  unfolding loaded
+      → (loadRange C image a c .least ≤ getD image t 0) × (getD image t 0 ≤ loadRange C image a c .greatest)
+  unfolding loadRange
   loaded-holds full c h t r = widened-holds noByte (reached-member full c h t r)
 
   -- the range is no wider: where an address is reached, both its ends are bytes that are reached
   module _ (full : length image ≡ romLength) (bytes : Bytes image) (c : CodeAccess) (h : Holds (codeInRom C a c)) (t : ℕ) (r : Reaches C a c t) where
-    loaded-ends : ReachedByte c (loaded C image a c .least) × ReachedByte c (loaded C image a c .greatest)
-    unfolding loaded
+    loaded-ends : ReachedByte c (loadRange C image a c .least) × ReachedByte c (loadRange C image a c .greatest)
+    unfolding loadRange
     loaded-ends =
         let z = loaded-holds full c h t r in
         let w = widened-ends (λ v. v ≤ getD image t 0 → ReachedByte c v) (λ v. getD image t 0 ≤ v → ReachedByte c v) noByte _
@@ -177,24 +185,24 @@ module _ (C : Certificate) (image : List ℕ) (a : ℕ) where
         (λ b m. let v = each-reached (ReachedByte c) c (λ s g. (s, (g h, refl))) m in (λ l. v, λ l. v)) in
         (w .0 (z .0), w .1 (z .1))
 
-    pub loaded-least : ReachedByte c (loaded C image a c .least)
+    pub loaded-least : ReachedByte c (loadRange C image a c .least)
     loaded-least = loaded-ends .0
 
-    pub loaded-greatest : ReachedByte c (loaded C image a c .greatest)
+    pub loaded-greatest : ReachedByte c (loadRange C image a c .greatest)
     loaded-greatest = loaded-ends .1
 
   -- its greatest is a byte, also where 24 does not hold
-  pub loaded-byte : Bytes image → (c : CodeAccess) → loaded C image a c .greatest ≤ 255
-  unfolding loaded
+  pub loaded-byte : Bytes image → (c : CodeAccess) → loadRange C image a c .greatest ≤ 255
+  unfolding loadRange
   loaded-byte bytes c =
       widened-ends (λ b. Unit {0}) (λ b. b ≤ 255) noByte _ tt (omega arith)
       (λ b m. (tt, each-reached (λ v. v ≤ 255) c (λ s g. omega (arith, bytes s)) m)) .1
 
   -- a direct address reaches its one byte
   pub loaded-direct : length image ≡ romLength → Bytes image → (t : RomAddr) → t .0 < romLength
-      → loaded C image a (CodeAccess.Direct t) ≡ range (getD image (t .0) 0) (getD image (t .0) 0)
+      → loadRange C image a (CodeAccess.Direct t) ≡ range (getD image (t .0) 0) (getD image (t .0) 0)
   loaded-direct full bytes t h =
       let c = CodeAccess.Direct t in
       let at : (v : ℕ) → ReachedByte c v → v ≡ getD image (t .0) 0 = λ v b. sym (b .1 .1) ∙ ap (λ (s : ℕ). getD image s 0) (b .1 .0) in
-      ap (λ (l : ℕ). range l (loaded C image a c .greatest)) (at _ (loaded-least full bytes c h (t .0) refl))
+      ap (λ (l : ℕ). range l (loadRange C image a c .greatest)) (at _ (loaded-least full bytes c h (t .0) refl))
       ∙ ap (range (getD image (t .0) 0)) (at _ (loaded-greatest full bytes c h (t .0) refl))

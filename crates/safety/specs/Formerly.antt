@@ -20,7 +20,7 @@ use Rattle.decode.specs.Decode.{decodeAt}
 use Rattle.action.specs.declared.Action.{Action}
 use Rattle.action.specs.Action.{actionOf}
 use Rattle.certificate.specs.declared.Range.{Range}
-use Rattle.certificate.specs.declared.NewValue.the-variants.{Within}
+use Rattle.certificate.specs.declared.NewValue.the-variants.{Within, Unknown}
 use Rattle.certificate.specs.declared.Write.{Write}
 use Rattle.certificate.specs.declared.CodeAccess.{CodeAccess}
 use Rattle.certificate.specs.declared.FlagEffect.{FlagEffect}
@@ -35,7 +35,7 @@ use Rattle.certificate.specs.Summaries.{range, codeAccess, summaryWith, summary
 use Rattle.safety.specs.Rules.{Edge, Change, Change.changed, edges, isUnchanged, low, high, claimed, directWrite, pointedWrite, codeInRom}
 use Rattle.safety.specs.Rules.{changeOf, follows, claimFollows, flagsFollow, compareFollows, edge26, worst, sameFirst, boundAlong, boundAfter}
 use Rattle.safety.specs.Rules.{paid, edge27, rule21, rule22, rule23, rule24By, rule24, rule25, rule26, rule27}
-use Rattle.safety.specs.CodeRange.{loaded}
+use Rattle.safety.specs.CodeRange.{loadRange}
 use Rattle.safety.specs.Verdicts.{Rules, summaryFrom, summaryAt, nextAt, costAt, rulesWith, rulesOn, verdictBy, verdictOf}
 use Rattle.safety.specs.Accepted.{Every, ascending-with, accepted-lengths, accepted-rules}
 use Rattle.safety.specs.Exact.{unbroken, accepted-when}
@@ -60,6 +60,12 @@ formerRules C image a =
 
 abbrev pub verdictFormerly : List ℕ → List ℕ → Verdict
 verdictFormerly = verdictBy formerRules
+
+-- a byte of 0 to 255 gives a claim what a byte of which nothing is known gives it, as LDC did
+pub any-byte : (C : Certificate) (a : ℕ) (e : Edge) (x l h : ℕ)
+    → (Holds (follows C a e (changed (Within (range 0 255))) x l h) → Holds (follows C a e (changed Unknown) x l h))
+    × (Holds (follows C a e (changed Unknown) x l h) → Holds (follows C a e (changed (Within (range 0 255))) x l h))
+any-byte C a e x l h = (λ p. (omega arith, p .1), λ p. (omega arith, p .1))
 
 -- what a write may leave in a cell, then and now: the same, or bytes of a range where it was 0 to 255
 data Narrower : Change → Change → Type 0 where
@@ -205,4 +211,4 @@ still-accepted image cert imageBytes certBytes h =
     let r = accepted-rules formerRules C image (λ a. ascending-with _ _ _ _ _ _) (p .1) in
     accepted-when image cert (unbroken image cert (p .0) (r .0) (λ a l s.
     rules-still C a (high-byte cert certBytes a) (formerSummary image a) (summaryAt C image a)
-    (summary-tighter C a (loaded C image a) (loaded-byte C image a imageBytes) (decodeAt image a)) (nextAt image a) (costAt image a) (r .1 a l s)))
+    (summary-tighter C a (loadRange C image a) (loaded-byte C image a imageBytes) (decodeAt image a)) (nextAt image a) (costAt image a) (r .1 a l s)))

@@ -29,7 +29,7 @@ use Rattle.certificate.specs.declared.Flow.the-variants.{Step, Call, Return, In
 use Rattle.certificate.specs.Layout.{Certificate}
 use Rattle.safety.specs.Rules.{flowAllowed, rule22, rule25}
 use Rattle.certificate.specs.Summaries.{summaryOf}
-use Rattle.safety.specs.CodeRange.{loaded}
+use Rattle.safety.specs.CodeRange.{loadRange}
 use Rattle.safety.specs.Verdicts.{summaryFrom, sizeFrom, summaryAt, nextAt, costAt}
 use Rattle.safety.specs.Statement.{Frame, Open, transferOf, loadsTop, charge, outward, spends, closing, PointersRight, ReturnsRight, Within, transferred, Opener, byCall, byInterrupt}
 use Rattle.safety.specs.Invariant.{at, Awake, Invariant, Shaped, tableOf, FlagsAfter}
@@ -49,16 +49,16 @@ use Rattle.safety.specs.Interrupts.{inv-interrupt-return}
 
 -- the rules at an address, for the instruction that is decoded there
 pub rules-decoded : (C : Certificate) (image : List ℕ) (a : ℕ) (d : Instruction × ℕ × FlagSet) → decodeAt image a ≡ value d → RulesHold C image a
-    → RulesOf C a (summaryOf (loaded C image a) (actionOf (d .0) (romAddr ((a + d .1) % 65536))) (d .2)) ((a + d .1) % 65536) (costAt image a)
+    → RulesOf C a (summaryOf (loadRange C image a) (actionOf (d .0) (romAddr ((a + d .1) % 65536))) (d .2)) ((a + d .1) % 65536) (costAt image a)
 unfolding summaryAt nextAt summaryFrom
 rules-decoded C image a d q h =
-    subst (λ (o : Outcome (Instruction × ℕ × FlagSet)). RulesOf C a (summaryFrom (loaded C image a) o a) ((a + sizeFrom o) % 65536) (costAt image a)) q
+    subst (λ (o : Outcome (Instruction × ℕ × FlagSet)). RulesOf C a (summaryFrom (loadRange C image a) o a) ((a + sizeFrom o) % 65536) (costAt image a)) q
     (rules-of C image a h)
 
 pub table-decoded : (C : Certificate) (image : List ℕ) (a : ℕ) (d : Instruction × ℕ × FlagSet) → decodeAt image a ≡ value d
-    → tableOf C a (summaryAt C image a) ≡ tableOf C a (summaryOf (loaded C image a) (actionOf (d .0) (romAddr ((a + d .1) % 65536))) (d .2))
+    → tableOf C a (summaryAt C image a) ≡ tableOf C a (summaryOf (loadRange C image a) (actionOf (d .0) (romAddr ((a + d .1) % 65536))) (d .2))
 unfolding summaryAt summaryFrom
-table-decoded C image a d q = ap (λ (o : Outcome (Instruction × ℕ × FlagSet)). tableOf C a (summaryFrom (loaded C image a) o a)) q
+table-decoded C image a d q = ap (λ (o : Outcome (Instruction × ℕ × FlagSet)). tableOf C a (summaryFrom (loadRange C image a) o a)) q
 
 -- at an address with an entry an instruction is decoded
 decoded-some : (C : Certificate) (load : CodeAccess → Range) (a : ℕ) (o : Outcome (Instruction × ℕ × FlagSet)) → Holds (rule22 C a (summaryFrom load o a))
@@ -69,14 +69,14 @@ decoded-some C load a (refused n) h = absurd (h .1)
 
 pub decoded-at : (C : Certificate) (image : List ℕ) (a : ℕ) → RulesHold C image a → (d : Instruction × ℕ × FlagSet) × (decodeAt image a ≡ value d)
 unfolding summaryAt
-decoded-at C image a h = decoded-some C (loaded C image a) a (decodeAt image a) (h .r22)
+decoded-at C image a h = decoded-some C (loadRange C image a) a (decodeAt image a) (h .r22)
 
 module _ (C : Certificate) (image : List ℕ) where
   -- the instruction act at a, with the flags ns that it names, on the registers r, with the address next behind it and cost c; o are the open routines
   pub record Right (ld : Bool) (a : ℕ) (act : Action) (ns : FlagSet) (r rec : List ℕ) (next : RomAddr) (c : ℕ) (o : Open) (e : Executed) : Type 0 where
     pub goes : e .next .stop ≡ 0
     pub awake : Awake (e .next .mode)
-    pub pointers : PointersRight C image (tableOf C a (summaryOf (loaded C image a) act ns)) r rec act
+    pub pointers : PointersRight C image (tableOf C a (summaryOf (loadRange C image a) act ns)) r rec act
     pub returning : ReturnsRight (transferOf act) (o .inner) (e .next .pc .0)
     pub within : Within C (charge c o .inner ∷ charge c o .outer)
     pub keeps :
@@ -90,10 +90,10 @@ module _ (C : Certificate) (image : List ℕ) (ok : Accepts C image) (facts : Ce
   gl = global C image ok
 
   module _ (ld : Bool) (a : ℕ) (act : Action) (ns : FlagSet) (r rec : List ℕ) (next : RomAddr) (c : ℕ) (o : Open) (shaped : Shaped ns act) (input : Input rec)
-      (rules : RulesOf C a (summaryOf (loaded C image a) act ns) (next .0) c) (v : Invariant C ld r a (o .inner) (o .outer)) where
+      (rules : RulesOf C a (summaryOf (loadRange C image a) act ns) (next .0) c) (v : Invariant C ld r a (o .inner) (o .outer)) where
     -- the ranges that the claims at a give, and its summary by them
     abbrev load : CodeAccess → Range
-    load = loaded C image a
+    load = loadRange C image a
 
     abbrev summary : Summary
     summary = summaryOf load act ns

@@ -20,7 +20,7 @@ use Rattle.certificate.specs.declared.Flow.the-variants.{Step, Call, Return, In
 use Rattle.certificate.specs.declared.Summary.{Summary}
 use Rattle.certificate.specs.Layout.{Certificate}
 use Rattle.safety.specs.Rules.{unloaded}
-use Rattle.safety.specs.CodeRange.{loaded}
+use Rattle.safety.specs.CodeRange.{loadRange}
 use Rattle.certificate.specs.Summaries.{summaryOf, flagEffect, onward}
 use Rattle.safety.specs.Statement.{Frame}
 use Rattle.safety.specs.Invariant.{Stack, Before, Does, Shaped}
@@ -43,7 +43,7 @@ module _ (C : Certificate) (image : List ℕ) (gl : Global C image) (size : leng
     (ns : FlagSet) (deep : C .depth a ≤ unloaded) where
   -- the ranges that the claims at a give
   abbrev load : CodeAccess → Range
-  load = loaded C image a
+  load = loadRange C image a
 
   -- what is to be shown of an action, by the flow of its summary
   abbrev RefinesFlow : Flow → Summary → Action → Type 0

@@ -37,7 +37,7 @@ use Rattle.safety.specs.Invariant.{at, Registers, Refines, Before, Effec
 use Rattle.safety.specs.Facts.{Global, EntryFacts, Writable, is-writable}
 use Rattle.safety.specs.Memory.{Input, load-small, mapped-byte, store-registers}
 use Rattle.safety.specs.RefineOperands.{Written, claimed-ram, not-writable, register-written, refines-written, flags-kept}
-use Rattle.safety.specs.CodeRange.{loaded}
+use Rattle.safety.specs.CodeRange.{loadRange}
 use Rattle.safety.specs.CodeRangeLaws.{PairReaches, Reaches, reached-in-rom, loaded-holds}
 use Rattle.safety.specs.Edge.{beyond-ram}
 use Rattle.safety.specs.StepRules.{StepRules}
@@ -50,7 +50,7 @@ module _ (C : Certificate) (image : List ℕ) (gl : Global C image) (size : leng
     (a : ℕ) (e : EntryFacts C a) (r rec : List ℕ) (pre : Before C a r) (input : Input rec) (next : RomAddr) (ns : FlagSet) where
   -- the ranges that the claims at a give
   abbrev load : CodeAccess → Range
-  load = loaded C image a
+  load = loadRange C image a
 
   -- a half of a pair lies in its range; the low half may stand behind RAM
   half-range : (q : ℕ) → q ≤ ramEnd → (low C a q ≤ loadOf r rec q) × (loadOf r rec q ≤ high C a q)

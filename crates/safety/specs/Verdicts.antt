@@ -27,7 +27,7 @@ use Rattle.certificate.specs.declared.Verdict.the-variants.{Accepted, Refused}
 use Rattle.certificate.specs.Layout.{Certificate, certificateOf}
 use Rattle.certificate.specs.Summaries.{summaryOf, forbidden}
 use Rattle.safety.specs.Rules.{rule20, rule21, rule22, rule23, rule24, rule25, rule26, rule27}
-use Rattle.safety.specs.CodeRange.{loaded}
+use Rattle.safety.specs.CodeRange.{loadRange}
 
 -- the instruction at an address: its summary, by the range of what LDC can load from where, and the address behind it (one byte where there is none)
 unfoldable pub summaryFrom : (CodeAccess → Range) → Outcome (Instruction × ℕ × FlagSet) → ℕ → Summary
@@ -40,7 +40,7 @@ sizeFrom (refused n) = 1
 
 -- request 14: the destination gets the range of the bytes that the claims at the instruction let it reach
 unfoldable pub summaryAt : Certificate → List ℕ → ℕ → Summary
-summaryAt C image a = summaryFrom (loaded C image a) (decodeAt image a) a
+summaryAt C image a = summaryFrom (loadRange C image a) (decodeAt image a) a
 
 unfoldable pub nextAt : List ℕ → ℕ → ℕ
 nextAt image a = (a + sizeFrom (decodeAt image a)) % 65536

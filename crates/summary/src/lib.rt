@@ -1,9 +1,9 @@
 // The effect summary of an action at an address and the flags that it names.
 ghost use mathlib.Core.Path.{_≡_};
 ghost use Rattle.certificate.specs.Summaries.{writeTo, binaryValue, flagEffect, binaryFlags, binarySummary, modifyValue, loadSummary};
-ghost use Rattle.certificate.specs.Summaries.{codeAccess, onward, summaryOf};
+ghost use Rattle.certificate.specs.Summaries.{codeAccess, onward, summaryOf, reaching as reachingOf};
 ghost use Rattle.certificate.specs.Layout.{certificateOf};
-ghost use Rattle.safety.specs.CodeRange.{loaded};
+ghost use Rattle.safety.specs.CodeRange.{loadRange};
 ghost use Rattle.alu.specs.Operations.{stores};
 ghost use Rattle.isa.specs.declared.Alu.the-variants.{And, Cp};
 ghost use Rattle.certificate.specs.declared.NewValue.the-variants.{Unknown, Within};
@@ -64,7 +64,7 @@ fn moving(w: Write, f: Access, s: Access, g: FlagEffect, k: StackEffect) -> Summ
 }
 
 fn reaching(w: Write, c: CodeAccess, g: FlagEffect) -> Summary
-    ensures { λ r. ⌜ r ≡ Rattle.certificate.specs.Summaries.reaching w c g ⌝ }
+    ensures { λ r. ⌜ r ≡ reachingOf w c g ⌝ }
 {
     Summary {
         write: w,
@@ -353,10 +353,10 @@ fn load_code(
     c: CodeAddress,
     g: FlagEffect,
 ) -> Summary
-    ensures { λ r. ⌜ r ≡ Rattle.certificate.specs.Summaries.reaching (Write.Register d (Within (loaded (certificateOf (now (cert .entry))) (now (image .entry)) (a .0) (codeAccess c)))) (codeAccess c) g ⌝ }
+    ensures { λ r. ⌜ r ≡ reachingOf (Write.Register d (Within (loadRange (certificateOf (now (cert .entry))) (now (image .entry)) (a .0) (codeAccess c)))) (codeAccess c) g ⌝ }
 {
     let from = code_access(c);
-    let q = code_range::loaded(image, cert, a, from);
+    let q = code_range::load_range(image, cert, a, from);
     reaching(Write::Register(d, NewValue::Within(q)), from, g)
 }
 
@@ -369,16 +369,16 @@ fn load_code_step(
     p: RegAddr,
     g: FlagEffect,
 ) -> Summary
-    ensures { λ r. ⌜ r ≡ Rattle.certificate.specs.Summaries.reaching (Write.RegisterAndPair d (loaded (certificateOf (now (cert .entry))) (now (image .entry)) (a .0) (CodeAccess.Pair p 0 0)) p) (CodeAccess.Pair p 0 0) g ⌝ }
+    ensures { λ r. ⌜ r ≡ reachingOf (Write.RegisterAndPair d (loadRange (certificateOf (now (cert .entry))) (now (image .entry)) (a .0) (CodeAccess.Pair p 0 0)) p) (CodeAccess.Pair p 0 0) g ⌝ }
 {
     let from = CodeAccess::Pair(p, 0, 0);
-    let q = code_range::loaded(image, cert, a, from);
+    let q = code_range::load_range(image, cert, a, from);
     reaching(Write::RegisterAndPair(d, q, p), from, g)
 }
 
 // The effect summary of an action at a and the flags that it names.
 pub fn summary_of(image: &[u8], cert: &[u8], a: RomAddr, action: Action, names: FlagSet) -> Summary
-    ensures { λ r. ⌜ r ≡ summaryOf (loaded (certificateOf (now (cert .entry))) (now (image .entry)) (a .0)) action names ⌝ }
+    ensures { λ r. ⌜ r ≡ summaryOf (loadRange (certificateOf (now (cert .entry))) (now (image .entry)) (a .0)) action names ⌝ }
 {
     let g = flag_effect(names, FlagEffect::Changed);
     match action {

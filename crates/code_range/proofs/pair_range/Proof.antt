@@ -1,5 +1,5 @@
 -- The rows begin at the lowest address of the pair's claims, one for each value of its high half.
-use Rattle.safety.specs.CodeRange.{loaded}
+use Rattle.safety.specs.CodeRange.{loadRange}
 use Rattle.certificate.specs.Layout.{certificateOf}
 use mathlib.Core.Path.{_∙_}
 use borrow.Author.Needs.{needs}
@@ -15,8 +15,8 @@ entry-of-requires c κs = search needs
 low-in-requires : tie.Need-low-in-requires
 low-in-requires c κs = search needs
 
-second-low-requires : tie.Need-second-low-requires
-second-low-requires c κs = search needs
+second-half-low-requires : tie.Need-second-half-low-requires
+second-half-low-requires c κs = search needs
 
 high-in-requires : tie.Need-high-in-requires
 high-in-requires c κs = search needs
@@ -24,8 +24,8 @@ high-in-requires c κs = search needs
 value-count-requires : tie.Need-value-count-requires
 value-count-requires c κs = search needs
 
-second-high-requires : tie.Need-second-high-requires
-second-high-requires c κs = search needs
+second-half-high-requires : tie.Need-second-half-high-requires
+second-half-high-requires c κs = search needs
 
 value-count-requires-2 : tie.Need-value-count-requires-2
 value-count-requires-2 c κs = search needs
@@ -37,7 +37,7 @@ rows-range-requires : tie.Need-rows-range-requires
 rows-range-requires c κs = search needs
 
 returns : tie.Need-returns
-unfolding loaded
+unfolding loadRange
 returns c =
     let h = c .before .before .before in
     let l = h .before .before .before .before in
@@ -50,10 +50,10 @@ returns c =
       c .rows-range .ensures,
       c .before .lowest-address .ensures,
       c .before .before .value-count2 .ensures,
-      h .second-high .ensures C a q,
+      h .second-half-high .ensures C a q,
       h .before .value-count .ensures,
       h .before .before .high-in .ensures C a q,
-      h .before .before .before .second-low .ensures C a q,
+      h .before .before .before .second-half-low .ensures C a q,
       l .low-in .ensures C a q,
     )
 
@@ -64,10 +64,10 @@ pair-range-spec =
     entry-part-requires
     entry-of-requires
     low-in-requires
-    second-low-requires
+    second-half-low-requires
     high-in-requires
     value-count-requires
-    second-high-requires
+    second-half-high-requires
     value-count-requires-2
     lowest-address-requires
     rows-range-requires

@@ -1,7 +1,7 @@
 -- An instruction is located by what the decoder answers at the address, case by case.
 use Rattle.base.specs.Outcome.{Outcome}
 use Rattle.certificate.specs.Layout.{certificateOf}
-use Rattle.safety.specs.CodeRange.{loaded}
+use Rattle.safety.specs.CodeRange.{loadRange}
 use Rattle.isa.specs.Answer.{decoded}
 use Rattle.isa.specs.declared.FlagSet.{FlagSet}
 use Rattle.isa.specs.declared.Instruction.{Instruction}
@@ -48,7 +48,7 @@ no-instruction-requires-3 c κs = search needs
 
 module _ (cert image : List ℕ) (a : ℕ) where
   abbrev located : Outcome (Instruction × ℕ × FlagSet) → Located
-  located o = locatedIn (loaded (certificateOf cert) image a) o a
+  located o = locatedIn (loadRange (certificateOf cert) image a) o a
 
   -- from what the decoder answered, to what it answers by its definition
   answered : {d e : Decoded} {o : Outcome (Instruction × ℕ × FlagSet)} → d ≡ e → decoded d ≡ o → located (decoded e) ≡ located o

@@ -20,8 +20,8 @@ cast-low c = search needs
 mul-low : tie.Need-mul-low
 mul-low c = search needs
 
-second-low-requires : tie.Need-second-low-requires
-second-low-requires c κs = search needs
+second-half-low-requires : tie.Need-second-half-low-requires
+second-half-low-requires c κs = search needs
 
 cast-low-2 : tie.Need-cast-low-2
 cast-low-2 c = search needs
@@ -41,8 +41,8 @@ cast-high c = search needs
 mul-high : tie.Need-mul-high
 mul-high c = search needs
 
-second-high-requires : tie.Need-second-high-requires
-second-high-requires c κs = search needs
+second-half-high-requires : tie.Need-second-half-high-requires
+second-half-high-requires c κs = search needs
 
 cast-high-2 : tie.Need-cast-high-2
 cast-high-2 c = search needs
@@ -71,9 +71,9 @@ returns c =
     let q = s .entry-of .ensures ∙ s .before .entry-part .ensures .1 in
     rw (
       c .claimed-in .ensures C a q,
-      c .before .second-high .ensures C a q,
+      c .before .second-half-high .ensures C a q,
       c .before .before .high-in .ensures C a q,
-      c .before .before .before .second-low .ensures C a q,
+      c .before .before .before .second-half-low .ensures C a q,
       c .before .before .before .before .low-in .ensures C a q,
     )
 
@@ -86,14 +86,14 @@ pair-in-rom-spec =
     low-in-requires
     cast-low
     mul-low
-    second-low-requires
+    second-half-low-requires
     cast-low-2
     add-low
     add-low-2
     high-in-requires
     cast-high
     mul-high
-    second-high-requires
+    second-half-high-requires
     cast-high-2
     add-high
     add-high-2

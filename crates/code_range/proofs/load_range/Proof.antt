@@ -1,8 +1,8 @@
 -- No byte, the one byte of a direct address, or the rows of a pair.
-use Rattle.safety.specs.CodeRange.{widened, loaded}
+use Rattle.safety.specs.CodeRange.{widened, loadRange}
 use borrow.Author.Needs.{needs}
-use Rattle.code_range.proofs.loaded.Statement.{statement}
-use Rattle.code_range.proofs.loaded.Tie as tie
+use Rattle.code_range.proofs.load_range.Statement.{statement}
+use Rattle.code_range.proofs.load_range.Tie as tie
 
 enum-told : tie.Need-enum-told
 enum-told c = search needs
@@ -23,18 +23,18 @@ pair-range-requires : tie.Need-pair-range-requires
 pair-range-requires c κs = search needs
 
 returns : tie.Need-returns
-unfolding loaded widened
+unfolding loadRange widened
 returns c = rw (c .enum-told .given .1)
 
 returns-2 : tie.Need-returns-2
-unfolding loaded
+unfolding loadRange
 returns-2 c = rw (c .before .before .before .c .given .1) (c .rows-range .ensures)
 
 returns-3 : tie.Need-returns-3
 returns-3 c = rw (c .before .before .c2 .given .1) (c .pair-range .ensures)
 
-pub loaded-spec : {M : Type 1} → statement M
-loaded-spec =
+pub load-range-spec : {M : Type 1} → statement M
+load-range-spec =
     tie.close
     (tie.spec
     enum-told
