@@ -6,6 +6,7 @@ ghost use mathlib.Core.Bool.{true, false};
 ghost use Rattle.base.specs.Choice.{pick};
 ghost use Rattle.base.specs.Formula.{decide};
 ghost use Rattle.certificate.specs.Layout.{Certificate};
+ghost use Rattle.certificate.specs.Summaries.{range};
 ghost use Rattle.entries.specs.Fields.{entryOf};
 ghost use Rattle.safety.specs.Rules.{changeOf};
 ghost use Rattle.claims.specs.Values.{edgeOf, among, noneAmong, staysWithin, allWithin, valuesOf, feasibleFor, changeIn, pointedAt};
@@ -67,22 +68,20 @@ pub fn high_in(n: Entry, x: RegAddr) -> u8
 }
 
 // The range of the cell behind p, the low half of a pair; behind FFH stands none, and 0 to 255 counts.
-pub fn second_half_low(n: Entry, p: RegAddr) -> u8
-    ensures { λ r. ⌜ ((C : Certificate) (a : ℕ) → n ≡ entryOf C a → r ≡ Rattle.safety.specs.Rules.low C a (p .0 + 1)) ⌝ }
+pub fn second_half_range(n: Entry, p: RegAddr) -> Range
+    ensures { λ r. ⌜ ((C : Certificate) (a : ℕ) → n ≡ entryOf C a → r ≡ range (Rattle.safety.specs.Rules.low C a (p .0 + 1)) (Rattle.safety.specs.Rules.high C a (p .0 + 1))) ⌝ }
 {
     if p.0 == 255 {
-        return 0;
+        return Range {
+            least: 0,
+            greatest: 255,
+        };
     }
-    low_in(n, RegAddr(p.0 + 1))
-}
-
-pub fn second_half_high(n: Entry, p: RegAddr) -> u8
-    ensures { λ r. ⌜ ((C : Certificate) (a : ℕ) → n ≡ entryOf C a → r ≡ Rattle.safety.specs.Rules.high C a (p .0 + 1)) ⌝ }
-{
-    if p.0 == 255 {
-        return 255;
+    let x = RegAddr(p.0 + 1);
+    Range {
+        least: low_in(n, x),
+        greatest: high_in(n, x),
     }
-    high_in(n, RegAddr(p.0 + 1))
 }
 
 pub fn claimed_in(n: Entry, x: RegAddr) -> bool

@@ -82,11 +82,16 @@ fn pair_range(image: &[u8], cert: &[u8], a: RomAddr, p: RegAddr, up: u16, down: 
     ensures { λ r. ⌜ r ≡ Rattle.safety.specs.CodeRange.loadRange (certificateOf (now (cert .entry))) (now (image .entry)) (a .0) (CodeAccess.Pair p up down) ⌝ }
 {
     let e = entries::entry_of(entries::entry_part(cert, a));
+    let second = claims::second_half_range(e, p);
     let upper = claims::low_in(e, p);
-    let lower = claims::second_half_low(e, p);
     let rows = value_count(upper, claims::high_in(e, p));
-    let width = value_count(lower, claims::second_half_high(e, p));
-    rows_range(image, rows, lowest_address(upper, lower, up, down), width)
+    let width = value_count(second.least, second.greatest);
+    rows_range(
+        image,
+        rows,
+        lowest_address(upper, second.least, up, down),
+        width,
+    )
 }
 
 // The range of the bytes that the instruction at a can load.

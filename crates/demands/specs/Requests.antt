@@ -413,9 +413,9 @@ rom-holds-the-set = whole-set-in-rom
 pub still-accepted : (image cert : List ℕ) → Bytes image → Bytes cert → verdictFormerly image cert ≡ verdict.Accepted → verdictOf image cert ≡ verdict.Accepted
 still-accepted = formerly.still-accepted
 
--- a program whose pointer comes from a table in ROM is accepted, and was not. With one byte of the table too large it is refused; `overlong-breaks` of
+-- a program whose pointer comes from a table in ROM is accepted, and was not. With one byte of the table too large it is refused; `exceeding-breaks` of
 -- `refused_programs` shows that demand 3 is false of it
 pub table-accepted : (verdictOf (linearised.imageWith 6) linearised.certificate ≡ verdict.Accepted)
     × (verdictFormerly (linearised.imageWith 6) linearised.certificate ≡ verdict.Refused 26 (romAddr 0x10B))
     × (verdictOf (linearised.imageWith 0x10) linearised.certificate ≡ verdict.Refused 26 (romAddr 0x10B))
-table-accepted = (linearised.linearised-accepted, linearised.linearised-formerly, linearised.overlong-refused)
+table-accepted = (linearised.linearised-accepted, linearised.linearised-formerly, linearised.exceeding-refused)

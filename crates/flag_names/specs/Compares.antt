@@ -16,7 +16,6 @@ use Rattle.base.specs.Addresses.{romAddr, spCell}
 use Rattle.base.specs.Cells.{Bytes}
 use Rattle.base.specs.ChoiceLaws.{pick-has}
 use Rattle.base.specs.Formula.{Holds, sound, test, eq, _‖_, forallBelow}
-use Rattle.base.specs.Outcome.{Outcome}
 use Rattle.base.specs.Outcome.Outcome.{value}
 use Rattle.isa.specs.declared.Alu.{Alu}
 use Rattle.isa.specs.declared.Alu.the-variants.{Add, Adc, Sub, Sbc, Or, And, Tcm, Tm, Cp, Xor}
@@ -49,7 +48,8 @@ use Rattle.safety.specs.Invariant.{Shaped}
 use Rattle.safety.specs.DecodedShape.{decoded-shaped}
 use Rattle.safety.specs.Transfers.{is-call}
 use Rattle.safety.specs.CodeRange.{loadRange}
-use Rattle.safety.specs.Verdicts.{summaryFrom, summaryAt}
+use Rattle.safety.specs.Verdicts.{summaryAt}
+use Rattle.safety.specs.Instruction.{summary-decoded}
 
 some-or-none : (b : ℕ) → b < 256
     → (flagIn Carry (namesOf b .0) ≡ true) ⊎ ((flagIn Zero (namesOf b .0) ≡ true) ⊎ ((flagIn Sign (namesOf b .0) ≡ true)
@@ -182,8 +182,7 @@ module _ (C : Certificate) (image : List ℕ) (a : ℕ) (d : Instruction × ℕ 
 
   module _ (bytes : Bytes image) (found : decodeAt image a ≡ value d) where
     summary-there : summaryAt C image a ≡ summaryOf (loadRange C image a) actionThere (d .2)
-    unfolding summaryAt summaryFrom
-    summary-there = ap (λ (o : Outcome (Instruction × ℕ × FlagSet)). summaryFrom (loadRange C image a) o a) found
+    summary-there = summary-decoded C image a d found
 
     -- naming no flag, by the byte of the set
     none-if-unnamed : ((g : Flag) → flagIn g (d .2 .0) ≡ false) → d .2 .0 ≡ 0

@@ -112,6 +112,6 @@ unfolding opened imageWith entry cell row
 linearised-formerly = on-tables formerRules 6 tt refl
 
 -- a single byte too large
-pub overlong-refused : verdictOf (imageWith 0x10) certificate ≡ Refused 26 (romAddr 0x10B)
+pub exceeding-refused : verdictOf (imageWith 0x10) certificate ≡ Refused 26 (romAddr 0x10B)
 unfolding opened imageWith entry cell row
-overlong-refused = on-tables rulesAt 0x10 tt refl
+exceeding-refused = on-tables rulesAt 0x10 tt refl

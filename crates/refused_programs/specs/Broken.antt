@@ -17,7 +17,7 @@ use Rattle.certificate.specs.declared.Verdict.the-variants.{Refused}
 use Rattle.safety.specs.Verdicts.{verdictOn}
 use Rattle.safety.specs.Statement.{Opener, byReset, byCall, byInterrupt, Demand3, StepRight, Monitored, Walk, fromReset, monitorStep}
 use Rattle.refused_programs.specs.Programs.{Program, certificate, stopping, straying, unnamed, pointing, pushing, returning, looping}
-use Rattle.refused_programs.specs.Programs.{charging, popping, fetching, resuming, serving, crossing, jumping, leaving, overlong}
+use Rattle.refused_programs.specs.Programs.{charging, popping, fetching, resuming, serving, crossing, jumping, leaving, exceeding}
 use Rattle.refused_programs.specs.Opened.{opened}
 use Rattle.refused_programs.specs.Computed.{verdict-is}
 
@@ -182,9 +182,9 @@ leaving-breaks = record {
 }
 
 -- request 14: R3 is 4, which gives R4 the byte that is too large, and register 10H lies in no table
-pub overlong-breaks : Breaks overlong 26 0x10B
+pub exceeding-breaks : Breaks exceeding 26 0x10B
 unfolding opened
-overlong-breaks = record {
-  verdict = verdict-is overlong tt refl;
-  broken = λ d. let z : (0 ≡ d .0 0x10E) × (d .0 0x10E ≢ 0) = step overlong d 5 .event .pointers .1 in z .1 (sym (z .0));
+exceeding-breaks = record {
+  verdict = verdict-is exceeding tt refl;
+  broken = λ d. let z : (0 ≡ d .0 0x10E) × (d .0 0x10E ≢ 0) = step exceeding d 5 .event .pointers .1 in z .1 (sym (z .0));
 }

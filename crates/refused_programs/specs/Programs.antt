@@ -151,8 +151,8 @@ unfoldable pub leaving : Program
 leaving = programOf (0xAF ∷ []) [] 0 (entry 0x100 1 255 0 ∷ []) [] [] 0xA0
 
 -- the program of `logger_cases` S`Linearised`, which takes its pointer from a table in ROM, with one byte of the table too large
-unfoldable pub overlong : Program
-overlong = record {
+unfoldable pub exceeding : Program
+exceeding = record {
   image = linearised.imageWith 0x10;
   entries = linearised.entries;
   cells = linearised.cells;

@@ -91,10 +91,9 @@ fn pair_in_rom(cert: &[u8], a: RomAddr, p: RegAddr, up: u16, down: u16) -> bool
     ensures { λ r. ⌜ r ≡ decide (codeInRom (certificateOf (now (cert .entry))) (a .0) (CodeAccess.Pair p up down)) ⌝ }
 {
     let e = entries::entry_of(entries::entry_part(cert, a));
-    let low = claims::low_in(e, p) as u32 * 256 + claims::second_half_low(e, p) as u32 + up as u32;
-    let high = claims::high_in(e, p) as u32 * 256
-        + claims::second_half_high(e, p) as u32
-        + up as u32;
+    let second = claims::second_half_range(e, p);
+    let low = claims::low_in(e, p) as u32 * 256 + second.least as u32 + up as u32;
+    let high = claims::high_in(e, p) as u32 * 256 + second.greatest as u32 + up as u32;
     let inside = (down as u32 <= low) & (high < base::ROM_END as u32 + down as u32);
     claims::claimed_in(e, p) & inside
 }

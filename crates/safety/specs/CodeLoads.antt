@@ -8,7 +8,6 @@ use mathlib.Core.List.{List}
 use Rattle.base.specs.declared.RegAddr.{RegAddr}
 use Rattle.base.specs.Addresses.{romAddr}
 use Rattle.base.specs.Formula.{eq, _‖_, decide-yes, decide-no, eqb-yes}
-use Rattle.base.specs.Outcome.{Outcome}
 use Rattle.base.specs.Outcome.Outcome.{value}
 use Rattle.isa.specs.declared.FlagSet.{FlagSet}
 use Rattle.isa.specs.declared.Instruction.{Instruction}
@@ -24,17 +23,15 @@ use Rattle.certificate.specs.Summaries.{summaryOf, codeAccess}
 use Rattle.safety.specs.Rules.{changeOf}
 use Rattle.safety.specs.Rules.Change.{changed}
 use Rattle.safety.specs.CodeRange.{loadRange}
-use Rattle.safety.specs.Verdicts.{summaryFrom, summaryAt}
+use Rattle.safety.specs.Verdicts.{summaryAt}
+use Rattle.safety.specs.Instruction.{summary-decoded}
 
 module _ (C : Certificate) (image : List ℕ) (a : ℕ) (d : Instruction × ℕ × FlagSet) (found : decodeAt image a ≡ value d) where
   abbrev actionThere : Action
   actionThere = actionOf (d .0) (romAddr ((a + d .1) % 65536))
 
   summary-there : {act : Action} → actionThere ≡ act → summaryAt C image a ≡ summaryOf (loadRange C image a) act (d .2)
-  unfolding summaryAt summaryFrom
-  summary-there e =
-      ap (λ (o : Outcome (Instruction × ℕ × FlagSet)). summaryFrom (loadRange C image a) o a) found
-      ∙ ap (λ (x : Action). summaryOf (loadRange C image a) x (d .2)) e
+  summary-there e = summary-decoded C image a d found ∙ ap (λ (x : Action). summaryOf (loadRange C image a) x (d .2)) e
 
   -- 24 tests what LDC's operand reaches
   pub code-of-load : (r : RegAddr) (c : CodeAddress) → actionThere ≡ Action.LoadCode r c → summaryAt C image a .code ≡ codeAccess c

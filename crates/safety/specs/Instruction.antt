@@ -47,6 +47,12 @@ use Rattle.safety.specs.Bounds.{within-of}
 use Rattle.safety.specs.Calls.{ReturnRight, calledFrame, inv-call, inv-return}
 use Rattle.safety.specs.Interrupts.{inv-interrupt-return}
 
+-- the summary at an address is that of the instruction that is decoded there
+pub summary-decoded : (C : Certificate) (image : List ℕ) (a : ℕ) (d : Instruction × ℕ × FlagSet) → decodeAt image a ≡ value d
+    → summaryAt C image a ≡ summaryOf (loadRange C image a) (actionOf (d .0) (romAddr ((a + d .1) % 65536))) (d .2)
+unfolding summaryAt summaryFrom
+summary-decoded C image a d q = ap (λ (o : Outcome (Instruction × ℕ × FlagSet)). summaryFrom (loadRange C image a) o a) q
+
 -- the rules at an address, for the instruction that is decoded there
 pub rules-decoded : (C : Certificate) (image : List ℕ) (a : ℕ) (d : Instruction × ℕ × FlagSet) → decodeAt image a ≡ value d → RulesHold C image a
     → RulesOf C a (summaryOf (loadRange C image a) (actionOf (d .0) (romAddr ((a + d .1) % 65536))) (d .2)) ((a + d .1) % 65536) (costAt image a)
@@ -57,8 +63,7 @@ rules-decoded C image a d q h =
 
 pub table-decoded : (C : Certificate) (image : List ℕ) (a : ℕ) (d : Instruction × ℕ × FlagSet) → decodeAt image a ≡ value d
     → tableOf C a (summaryAt C image a) ≡ tableOf C a (summaryOf (loadRange C image a) (actionOf (d .0) (romAddr ((a + d .1) % 65536))) (d .2))
-unfolding summaryAt summaryFrom
-table-decoded C image a d q = ap (λ (o : Outcome (Instruction × ℕ × FlagSet)). tableOf C a (summaryFrom (loadRange C image a) o a)) q
+table-decoded C image a d q = ap (tableOf C a) (summary-decoded C image a d q)
 
 -- at an address with an entry an instruction is decoded
 decoded-some : (C : Certificate) (load : CodeAccess → Range) (a : ℕ) (o : Outcome (Instruction × ℕ × FlagSet)) → Holds (rule22 C a (summaryFrom load o a))

@@ -2,7 +2,6 @@
 use Rattle.entries.specs.declared.Entry.{Entry}
 use Rattle.safety.specs.Verdicts.{numberBy}
 use Rattle.certificate.specs.Layout.{certificateOf}
-use Prim.Native.Nat.{_-_}
 use borrow.Author.Tests.{eq-eqb, ne-eqb}
 use mathlib.Core.Path.{sym, ap, _∙_}
 use borrow.Author.Needs.{needs}

@@ -3,7 +3,7 @@ use Rattle.located.specs.declared.Located.{Located}
 use Rattle.safety.specs.Verdicts.{rulesOn, firstBroken, summaryAt, nextAt}
 use Rattle.located.specs.Located.{locatedIn}
 use Rattle.certificate.specs.Layout.{certificateOf}
-use Prim.Native.Nat.{ℕ, _-_}
+use Prim.Native.Nat.{ℕ}
 use mathlib.Core.Path.{ap, _∙_}
 use borrow.Author.Needs.{needs}
 use Rattle.checker.proofs.number_in.Statement.{statement}

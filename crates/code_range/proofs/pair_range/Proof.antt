@@ -12,20 +12,17 @@ entry-part-requires c κs = search needs
 entry-of-requires : tie.Need-entry-of-requires
 entry-of-requires c κs = search needs
 
+second-half-range-requires : tie.Need-second-half-range-requires
+second-half-range-requires c κs = search needs
+
 low-in-requires : tie.Need-low-in-requires
 low-in-requires c κs = search needs
-
-second-half-low-requires : tie.Need-second-half-low-requires
-second-half-low-requires c κs = search needs
 
 high-in-requires : tie.Need-high-in-requires
 high-in-requires c κs = search needs
 
 value-count-requires : tie.Need-value-count-requires
 value-count-requires c κs = search needs
-
-second-half-high-requires : tie.Need-second-half-high-requires
-second-half-high-requires c κs = search needs
 
 value-count-requires-2 : tie.Need-value-count-requires-2
 value-count-requires-2 c κs = search needs
@@ -40,8 +37,8 @@ returns : tie.Need-returns
 unfolding loadRange
 returns c =
     let h = c .before .before .before in
-    let l = h .before .before .before .before in
-    let e = l .before in
+    let k = h .before .before .before in
+    let e = k .before in
     let g = e .before .before .before .before .args in
     let C = certificateOf (g .cert .now) in
     let a = g .a .0 in
@@ -50,11 +47,10 @@ returns c =
       c .rows-range .ensures,
       c .before .lowest-address .ensures,
       c .before .before .value-count2 .ensures,
-      h .second-half-high .ensures C a q,
-      h .before .value-count .ensures,
-      h .before .before .high-in .ensures C a q,
-      h .before .before .before .second-half-low .ensures C a q,
-      l .low-in .ensures C a q,
+      h .value-count .ensures,
+      h .before .high-in .ensures C a q,
+      h .before .before .low-in .ensures C a q,
+      k .second-half-range .ensures C a q,
     )
 
 pub pair-range-spec : {M : Type 1} → statement M
@@ -63,11 +59,10 @@ pair-range-spec =
     (tie.spec
     entry-part-requires
     entry-of-requires
+    second-half-range-requires
     low-in-requires
-    second-half-low-requires
     high-in-requires
     value-count-requires
-    second-half-high-requires
     value-count-requires-2
     lowest-address-requires
     rows-range-requires

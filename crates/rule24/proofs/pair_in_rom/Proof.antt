@@ -11,6 +11,9 @@ entry-part-requires c κs = search needs
 entry-of-requires : tie.Need-entry-of-requires
 entry-of-requires c κs = search needs
 
+second-half-range-requires : tie.Need-second-half-range-requires
+second-half-range-requires c κs = search needs
+
 low-in-requires : tie.Need-low-in-requires
 low-in-requires c κs = search needs
 
@@ -19,9 +22,6 @@ cast-low c = search needs
 
 mul-low : tie.Need-mul-low
 mul-low c = search needs
-
-second-half-low-requires : tie.Need-second-half-low-requires
-second-half-low-requires c κs = search needs
 
 cast-low-2 : tie.Need-cast-low-2
 cast-low-2 c = search needs
@@ -40,9 +40,6 @@ cast-high c = search needs
 
 mul-high : tie.Need-mul-high
 mul-high c = search needs
-
-second-half-high-requires : tie.Need-second-half-high-requires
-second-half-high-requires c κs = search needs
 
 cast-high-2 : tie.Need-cast-high-2
 cast-high-2 c = search needs
@@ -64,17 +61,17 @@ claimed-in-requires c κs = search needs
 
 returns : tie.Need-returns
 returns c =
-    let s = c .before .before .before .before .before in
+    let l = c .before .before .before .before in
+    let s = l .before .before in
     let g = s .before .before .before .args in
     let C = certificateOf (g .cert .now) in
     let a = g .a .0 in
     let q = s .entry-of .ensures ∙ s .before .entry-part .ensures .1 in
     rw (
       c .claimed-in .ensures C a q,
-      c .before .second-half-high .ensures C a q,
       c .before .before .high-in .ensures C a q,
-      c .before .before .before .second-half-low .ensures C a q,
-      c .before .before .before .before .low-in .ensures C a q,
+      l .low-in .ensures C a q,
+      l .before .second-half-range .ensures C a q,
     )
 
 pub pair-in-rom-spec : {M : Type 1} → statement M
@@ -83,17 +80,16 @@ pair-in-rom-spec =
     (tie.spec
     entry-part-requires
     entry-of-requires
+    second-half-range-requires
     low-in-requires
     cast-low
     mul-low
-    second-half-low-requires
     cast-low-2
     add-low
     add-low-2
     high-in-requires
     cast-high
     mul-high
-    second-half-high-requires
     cast-high-2
     add-high
     add-high-2
