@@ -6,7 +6,9 @@ ghost use Rattle.base.specs.Lengths.{recordLength};
 ghost use Rattle.certificate.specs.declared.Verdict.the-variants.{Accepted};
 ghost use Rattle.semantics.specs.Reset.{resetState};
 ghost use Rattle.semantics.specs.Run.{runOf};
+ghost use Rattle.certificate.specs.Layout.{certificateOf};
 ghost use Rattle.safety.specs.Verdicts.{verdictOf};
+ghost use Rattle.safety.specs.Statement.{configurationOf};
 ghost use Rattle.accepted_run.specs.Whole.{DoesAll};
 use certificate::Verdict;
 use semantics::Ran;
@@ -17,15 +19,16 @@ pub struct Trial {
     pub ran: Ran,
 }
 
-// Checks an image with its certificate and runs it from reset over a schedule. Where it is accepted, the run does every record of a schedule of
-// whole records, and stops with 0.
+// Checks an image with its certificate and runs it from reset over a schedule, with the certificate's cycles of an interrupt entry. Where it is
+// accepted, the run does every record of a schedule of whole records, and stops with 0.
 pub fn check_and_run(image: &[u8], cert: &[u8], schedule: &[u8]) -> Trial
     ensures verdict { λ r. ⌜ r .verdict ≡ verdictOf (now (image .entry)) (now (cert .entry)) ⌝ }
-    ensures ran { λ r. ⌜ r .ran ≡ runOf (now (image .entry)) resetState (now (schedule .entry)) ⌝ }
+    ensures ran { λ r. ⌜ r .ran ≡ runOf (configurationOf (certificateOf (now (cert .entry)))) (now (image .entry)) resetState (now (schedule .entry)) ⌝ }
     ensures whole { λ r. ⌜ (r .verdict ≡ Accepted → length (now (schedule .entry)) % recordLength ≡ 0 → DoesAll (now (schedule .entry)) (r .ran)) ⌝ }
 {
     let verdict = checker::check(image, cert);
-    let ran = machine::run(image, machine::reset(), schedule);
+    let configuration = checker::configuration_of(cert);
+    let ran = machine::run(configuration, image, machine::reset(), schedule);
     Trial {
         verdict: verdict,
         ran: ran,

@@ -1,8 +1,8 @@
--- The lengths that 01 names.
+-- The lengths that 01 and 02 name, and the greatest cost of an interrupt entry.
 -- Assumes nothing.
 use Prim.Native.Nat.{ℕ}
-use mathlib.Core.Bool.{Bool}
-use lib.Dec.{eqb}
+use mathlib.Core.Bool.{Bool, _||_}
+use lib.Dec.{eqb, leb}
 
 -- bytes of ROM, and of an image
 abbrev pub romLength : ℕ
@@ -11,12 +11,22 @@ romLength = 4096
 abbrev pub isImageLength : ℕ → Bool
 isImageLength n = eqb n romLength
 
--- bytes of a certificate
-abbrev pub certificateLength : ℕ
-certificateLength = 58498
+-- bytes of a certificate: without the cycles of an entry, which are then 0, and with them, one byte more (request 03)
+abbrev pub shortCertificate : ℕ
+shortCertificate = 58498
+
+abbrev pub longCertificate : ℕ
+longCertificate = 58499
 
 abbrev pub isCertificateLength : ℕ → Bool
-isCertificateLength n = eqb n certificateLength
+isCertificateLength n = eqb n shortCertificate || eqb n longCertificate
+
+-- the cycles of an entry are 0 to 63
+abbrev pub greatestEntryCost : ℕ
+greatestEntryCost = 63
+
+abbrev pub isEntryCost : ℕ → Bool
+isEntryCost n = leb n greatestEntryCost
 
 -- bytes of a schedule record
 abbrev pub recordLength : ℕ

@@ -1,9 +1,9 @@
 // The two address spaces of the chip, the registers that code names, an address with an offset, the lengths of image, certificate and record,
-// and a slice's byte. A register address never stands where a program address is meant.
+// the greatest cost of an interrupt entry, and a slice's byte. A register address never stands where a program address is meant.
 ghost use mathlib.Core.Path.{_≡_};
 ghost use lib.ListN.{getD};
 ghost use Rattle.base.specs.Addresses.{displaced};
-ghost use Rattle.base.specs.Lengths.{isImageLength, isCertificateLength};
+ghost use Rattle.base.specs.Lengths.{isImageLength, isCertificateLength, isEntryCost};
 
 // An address of the register file, 00H to FFH.
 pub struct RegAddr(pub u8);
@@ -32,8 +32,13 @@ pub const IMAGE_LENGTH: usize = 4096;
 
 pub const ROM_END: u16 = IMAGE_LENGTH as u16;
 
-// The bytes of a certificate.
-pub const CERTIFICATE_LENGTH: usize = 58498;
+// The bytes of a certificate without the cycles of an interrupt entry, which are then 0, and with them.
+pub const SHORT_CERTIFICATE: usize = 58498;
+
+pub const LONG_CERTIFICATE: usize = 58499;
+
+// The greatest cycles of an interrupt entry.
+pub const GREATEST_ENTRY_COST: u8 = 63;
 
 // The bytes of a schedule record.
 pub const RECORD_LENGTH: usize = 8;
@@ -49,7 +54,14 @@ pub fn is_image_length(n: usize) -> bool
 pub fn is_certificate_length(n: usize) -> bool
     ensures { λ r. ⌜ r ≡ isCertificateLength n ⌝ }
 {
-    n == CERTIFICATE_LENGTH
+    (n == SHORT_CERTIFICATE) | (n == LONG_CERTIFICATE)
+}
+
+// Whether an interrupt entry may take n cycles.
+pub fn is_entry_cost(n: u8) -> bool
+    ensures { λ r. ⌜ r ≡ isEntryCost n ⌝ }
+{
+    n <= GREATEST_ENTRY_COST
 }
 
 // The byte at a position, 0 past the end.

@@ -35,14 +35,16 @@ pub record Certificate : Type 0 where
   -- the stack is floor to top - 1
   pub floor : ℕ
   pub top : ℕ
+  -- the cycles of an interrupt entry
+  pub entryCost : ℕ
 
 -- high byte first
 abbrev pub word : List ℕ → ℕ → ℕ
 word b i = getD b i 0 * 256 + getD b (i + 1) 0
 
 -- from the parts of an address, of a register and of a routine
-unfoldable pub certificateFrom : (ℕ → List ℕ) → (ℕ → List ℕ) → (ℕ → List ℕ) → ℕ → ℕ → Certificate
-certificateFrom entry cell row f t = record {
+unfoldable pub certificateFrom : (ℕ → List ℕ) → (ℕ → List ℕ) → (ℕ → List ℕ) → ℕ → ℕ → ℕ → Certificate
+certificateFrom entry cell row f t e = record {
   routine = λ a. getD (entry a) 0 0;
   depth = λ a. getD (entry a) 1 0;
   base = λ a. word (entry a) 2;
@@ -65,13 +67,15 @@ certificateFrom entry cell row f t = record {
   bound = λ n. word (row n) 4;
   floor = f;
   top = t;
+  entryCost = e;
 }
 
 -- number k of the m parts of w bytes each that begin at i; none past them
 unfoldable pub part : List ℕ → ℕ → ℕ → ℕ → ℕ → List ℕ
 part b i w m k = pick (ltb k m) (take w (drop (w * k) (drop i b))) []
 
--- 14 bytes at 14 × address; E000H: 3 bytes a register; E300H: 6 bytes a routine; E480H floor, E481H top
+-- 14 bytes at 14 × address; E000H: 3 bytes a register; E300H: 6 bytes a routine; E480H floor, E481H top; E482H the cycles of an entry (request 03),
+-- a byte that a short certificate has not: then 0
 abbrev pub entryPart : List ℕ → ℕ → List ℕ
 entryPart b = part b 0 14 romLength
 
@@ -82,4 +86,4 @@ abbrev pub rowPart : List ℕ → ℕ → List ℕ
 rowPart b = part b 0xE300 6 64
 
 unfoldable pub certificateOf : List ℕ → Certificate
-certificateOf b = certificateFrom (entryPart b) (cellPart b) (rowPart b) (getD b 0xE480 0) (getD b 0xE481 0)
+certificateOf b = certificateFrom (entryPart b) (cellPart b) (rowPart b) (getD b 0xE480 0) (getD b 0xE481 0) (getD b 0xE482 0)

@@ -1,7 +1,10 @@
 // Runs the checker on the cases of the file checks.bin, and prints what differs. A case is a byte for the profile and one for the
 // certificate's length; edits of an image of FFH, and of a certificate of 00H; and the answer that it expects.
-use base::CERTIFICATE_LENGTH;
+ghost use Prim.Native.Nat.{_≤_};
+ghost use Rattle.base.specs.Lengths.{longCertificate};
 use base::IMAGE_LENGTH;
+use base::LONG_CERTIFICATE;
+use base::SHORT_CERTIFICATE;
 use certificate::Verdict;
 use test_support::Case;
 use test_support::Counts;
@@ -60,9 +63,20 @@ fn tell(kind: Kind, expected: Answer, given: Answer) {
     print(b"\n");
 }
 
-// Whether the checker has the profile and the certificate length of a case: only the first of each yet.
+// Whether the checker has the profile of a case, only the first yet, and its certificate length.
 fn is_supported(kind: Kind) -> bool {
-    (kind.profile == 0) & (kind.length == 0)
+    (kind.profile == 0) & (kind.length <= 1)
+}
+
+// The bytes of a case's certificate.
+fn length_of(kind: Kind) -> usize
+    ensures { λ r. ⌜ r ≤ longCertificate ⌝ }
+{
+    if kind.length == 0 {
+        SHORT_CERTIFICATE
+    } else {
+        LONG_CERTIFICATE
+    }
 }
 
 fn same_answer(a: Answer, b: Answer) -> bool {
@@ -72,12 +86,12 @@ fn same_answer(a: Answer, b: Answer) -> bool {
 // Reads the rest of a case, and compares; one that is cut off differs.
 fn compare(fd: i32, kind: Kind, counts: Counts) -> Case {
     let mut image = [255u8; IMAGE_LENGTH];
-    let mut cert = [0u8; CERTIFICATE_LENGTH];
+    let mut cert = [0u8; LONG_CERTIFICATE];
     let mut three = [0u8; 3];
     let edited = read_edits(fd, &mut image) & read_edits(fd, &mut cert);
     let whole = (io::read_full(fd, &mut three) == 3) & edited;
     let expected = expected_of(&three);
-    let given = answer_of(checker::check(&image, &cert));
+    let given = answer_of(checker::check(&image, &cert[0..length_of(kind)]));
     if whole & is_supported(kind) & same_answer(expected, given) {
         return Case::Same;
     }

@@ -5,10 +5,11 @@ ghost use Rattle.certificate.specs.Layout.{certificateOf};
 ghost use Rattle.safety.specs.Verdicts.{rulesOn, rulesAt, firstBroken, numberAt, scan, verdictOf, Exact};
 ghost use Rattle.checker.specs.Tested.{tested, numberUnless};
 ghost use Rattle.certificate.specs.declared.Verdict.the-variants.{Accepted};
-ghost use Rattle.safety.specs.Statement.{Demand3};
+ghost use Rattle.safety.specs.Statement.{configurationOf, Demand3};
 use base::RomAddr;
 use certificate::Summary;
 use certificate::Verdict;
+use semantics::Configuration;
 
 // Which of rules 21 to 27 holds.
 struct Holding {
@@ -108,4 +109,13 @@ pub fn check(image: &[u8], cert: &[u8]) -> Verdict
         return Verdict::Refused(20, RomAddr(0));
     }
     first_refusal(image, cert)
+}
+
+// The configuration of a certificate: what a machine must be given beside the image for demand 3 to speak of its runs.
+pub fn configuration_of(cert: &[u8]) -> Configuration
+    ensures { λ r. ⌜ r ≡ configurationOf (certificateOf (now (cert .entry))) ⌝ }
+{
+    Configuration {
+        entry_cost: entries::entry_cost(cert),
+    }
 }

@@ -1,13 +1,14 @@
 // Runs with a coverage map, and summaries, to be timed: `cover_bench WHAT COUNT SEED`. Rows 1 to 3 are those of `machine_bench` with a map, COUNT thousands of
 // records; row 4 is COUNT summaries. A program of its own, since `run` takes other instructions in a program that also has `run_covered`.
-use base::CERTIFICATE_LENGTH;
 use base::IMAGE_LENGTH;
+use base::LONG_CERTIFICATE;
 use bench_programs::SCHEDULE;
 use bench_programs::program;
 use bench_programs::schedule;
 use bench_programs::tell;
 use coverage::Map;
 use coverage::WORDS;
+use semantics::Configuration;
 use semantics::State;
 use test_support::print;
 use test_support::print_number;
@@ -20,10 +21,11 @@ fn cover_parts(
     map: &mut Map,
     parts: u64,
 ) -> State {
+    let configuration = Configuration { entry_cost: 0 };
     let mut state = machine::reset();
     let mut left = parts;
     while left > 0 {
-        let r = machine::run_covered(image, state, records, map);
+        let r = machine::run_covered(configuration, image, state, records, map);
         state = r.state;
         left -= 1;
     }
@@ -56,7 +58,7 @@ fn summary(cert: &[u8], map: &Map) -> u64 {
 
 // Summaries of a certificate whose every address is a start. All words of the map but the last are full; the last is another each time.
 fn summaries(count: u64) -> u64 {
-    let cert = [1u8; CERTIFICATE_LENGTH];
+    let cert = [1u8; LONG_CERTIFICATE];
     let mut map: Map = [u64::MAX; WORDS];
     let mut sum = 0;
     let mut left = count;

@@ -5,7 +5,7 @@
 --   `start` started; `feed` feedStream, feedBuffer; `finish` finishAnswer; `write_image` writeAnswer, writeBuffer;
 --   `upper_line` upperAnswer, upperLine; `fill` fillAnswer, fillBuffer;
 --   `reset` resetState; `step` stepOf; `run` runOf; `run_covered` coveredRun, coveredMap; `count` markedCount;
---   `check` verdictOf; `lowest_unmarked` lowestOf;
+--   `check` verdictOf; `configuration_of` configurationOf; `lowest_unmarked` lowestOf;
 --   `write_report` reportAnswer, reportBuffer; `judge_texts` printedAnswer, printedBuffer.
 -- `judge_files` promises what `judge_texts` does of some two texts: no contract can say what a file holds.
 -- A call reaches no memory but what it is lent: the language has no other.
@@ -21,7 +21,7 @@ use borrow.Author.Tests.{lt-ltb}
 use Rattle.base.specs.declared.RomAddr.{RomAddr}
 use Rattle.base.specs.Cells.{Bytes}
 use Rattle.base.specs.Choice.{pick}
-use Rattle.base.specs.Lengths.{romLength, recordLength, isImageLength}
+use Rattle.base.specs.Lengths.{romLength, recordLength}
 use Rattle.base.specs.Outcome.{Outcome}
 use Rattle.base.specs.Outcome.Outcome.{value, refused}
 use Rattle.isa.specs.declared.FlagSet.{FlagSet}
@@ -38,8 +38,9 @@ use Rattle.encode.specs.Refusals.{encode-number, encode-unchanged, length-encod
 use Rattle.roundtrip.specs.RoundTrip.{re-encoded}
 use Rattle.roundtrip.specs.Copy.{copyAnswer, copyInto}
 use Rattle.roundtrip.specs.Refusals.{copy-number, copy-unchanged, length-copyInto}
+use Rattle.semantics.specs.declared.Configuration.{Configuration}
 use Rattle.semantics.specs.declared.State.{State}
-use Rattle.semantics.specs.Step.{stepOf}
+use Rattle.semantics.specs.Step.{validMachine, stepOf}
 use Rattle.semantics.specs.Run.{ran, runOf}
 use Rattle.semantics.specs.Refusals.{StepNumber, Stops, step-stops, run-number}
 use Rattle.coverage.specs.Map.{isMapLength}
@@ -145,31 +146,31 @@ judge-texts-lends image certificate out =
     }
 
 -- a refused step leaves the state before it, requests included
-pub step-stops-right : (image : List ℕ) (s : State) (rec : List ℕ) → Stops s (stepOf image s rec .state) (stepOf image s rec .stop)
-step-stops-right image s rec = step-stops s image rec
+pub step-stops-right : (K : Configuration) (image : List ℕ) (s : State) (rec : List ℕ) → Stops s (stepOf K image s rec .state) (stepOf K image s rec .stop)
+step-stops-right K image s rec = step-stops s K image rec
 
-pub run-refuses : (image : List ℕ) (s : State) (schedule : List ℕ) → StepNumber (runOf image s schedule .stop)
-run-refuses image s schedule = run-number image schedule s
+pub run-refuses : (K : Configuration) (image : List ℕ) (s : State) (schedule : List ℕ) → StepNumber (runOf K image s schedule .stop)
+run-refuses K image s schedule = run-number K image schedule s
 
 -- a run returns the state behind its completed steps: a step that is refused adds nothing to it
-pub run-leaves : (image schedule : List ℕ) (s : State)
-    → runOf image s schedule .state ≡ stateBehind (completedSteps image s schedule) image schedule 0 s
+pub run-leaves : (K : Configuration) (image schedule : List ℕ) (s : State)
+    → runOf K image s schedule .state ≡ stateBehind (completedSteps K image s schedule) K image schedule 0 s
 run-leaves = run-state
 
--- a run with a coverage map: the map keeps its length. Where a length is wrong, it is refused by 7; and where it is refused by 7, the map is as it was
-pub covered-refuses : (image : List ℕ) (s : State) (schedule m : List ℕ) → StepNumber (coveredRun image s schedule (length m) .stop)
+-- a run with a coverage map: the map keeps its length. Where the configuration or a length is wrong, it is refused by 7; and where it is refused by 7, the map is as it was
+pub covered-refuses : (K : Configuration) (image : List ℕ) (s : State) (schedule m : List ℕ) → StepNumber (coveredRun K image s schedule (length m) .stop)
 covered-refuses = covered-number
 
-pub covered-keeps-length : (image : List ℕ) (s : State) (schedule m : List ℕ) → length (coveredMap image s schedule m) ≡ length m
+pub covered-keeps-length : (K : Configuration) (image : List ℕ) (s : State) (schedule m : List ℕ) → length (coveredMap K image s schedule m) ≡ length m
 covered-keeps-length = covered-length
 
-pub covered-length-refused : (image : List ℕ) (s : State) (schedule m : List ℕ) → Words m
-    → (isMapLength (length m) && (isImageLength (length image) && eqb (length schedule % recordLength) 0)) ≡ false
-    → (coveredRun image s schedule (length m) ≡ ran s 0 7) × (coveredMap image s schedule m ≡ m)
-covered-length-refused = covered-refused
+pub covered-invalid-refused : (K : Configuration) (image : List ℕ) (s : State) (schedule m : List ℕ) → Words m
+    → (isMapLength (length m) && (validMachine K image && eqb (length schedule % recordLength) 0)) ≡ false
+    → (coveredRun K image s schedule (length m) ≡ ran s 0 7) × (coveredMap K image s schedule m ≡ m)
+covered-invalid-refused = covered-refused
 
-pub covered-unchanged : (image : List ℕ) (s : State) (schedule m : List ℕ) → Words m → coveredRun image s schedule (length m) .stop ≡ 7
-    → coveredMap image s schedule m ≡ m
+pub covered-unchanged : (K : Configuration) (image : List ℕ) (s : State) (schedule m : List ℕ) → Words m → coveredRun K image s schedule (length m) .stop ≡ 7
+    → coveredMap K image s schedule m ≡ m
 covered-unchanged = covered-seven
 
 pub check-refuses : (image cert : List ℕ) (n : ℕ) (a : RomAddr) → verdictOf image cert ≡ Refused n a → CheckNumber n
@@ -200,8 +201,8 @@ decoded-encodes-back = re-encoded
 pub logger-cases : AllHold cases
 logger-cases = all-hold
 
-pub steps-and-cycles : (image schedule : List ℕ) (s : State) → s .cycles < 4294967296
-    → Counted (completedSteps image s schedule) (totalCost image s schedule) s (runOf image s schedule)
+pub steps-and-cycles : (K : Configuration) (image schedule : List ℕ) (s : State) → s .cycles < 4294967296
+    → Counted (completedSteps K image s schedule) (totalCost K image s schedule) s (runOf K image s schedule)
 steps-and-cycles = run-counted
 
 -- an image written as Intel HEX reads back to itself, --

@@ -1,7 +1,7 @@
 -- The requests of document 02 that have landed, word for word, with what each states as a theorem over the definitions.
 -- Assumes nothing.
 use Prim.Native.Nat.{ℕ, _+_, _-_, _/_, _%_, _^_, _≤_, _<_}
-use mathlib.Core.Path.{_≡_}
+use mathlib.Core.Path.{_≡_, refl, ap}
 use mathlib.Core.Bool.{Bool, true, false, _||_}
 use mathlib.Core.Logic.{_≢_, _⊎_}
 use mathlib.Core.List.{List, [], _∷_, _++_}
@@ -14,7 +14,7 @@ use Rattle.base.specs.Addresses.{flagsCell, romAddr}
 use Rattle.base.specs.Cells.{Bytes}
 use Rattle.base.specs.Choice.{from, count}
 use Rattle.base.specs.Formula.{Holds, eqb-yes}
-use Rattle.base.specs.Lengths.{romLength, certificateLength, recordLength}
+use Rattle.base.specs.Lengths.{romLength, recordLength, shortCertificate, longCertificate, isImageLength, isCertificateLength, greatestEntryCost, isEntryCost}
 use Rattle.base.specs.Outcome.Outcome.{value, refused}
 use Rattle.isa.specs.declared.Flag.{Flag}
 use Rattle.isa.specs.declared.FlagSet.{FlagSet}
@@ -33,11 +33,15 @@ use Rattle.action.specs.declared.Action.{Action}
 use Rattle.action.specs.Action.{actionOf}
 use Rattle.chip.specs.Registers.{storeOf}
 use Rattle.semantics.specs.Operands.{withFlags}
+use Rattle.semantics.specs.declared.Configuration.{Configuration}
 use Rattle.semantics.specs.declared.State.{State}
-use Rattle.semantics.specs.Step.{requested, entryDue, behind, stepOf}
+use Rattle.semantics.specs.Step.{refuse, requested, entryDue, entryCost, vectorOf, behind, validMachine, stepOf}
 use Rattle.semantics.specs.Run.{ran, recordAt, runOf}
+use Rattle.semantics.specs.Refusals.{step-stops}
 use Rattle.coverage.specs.Map.{mapWords, marked, emptyMap, joined, markedCount, setBits}
 use Rattle.coverage.specs.MapLaws.{Words, same-marks, marked-joined, marked-past, set-bits-counted}
+use Rattle.machine.specs.Count.{costOf}
+use Rattle.machine.specs.EntryLaws.{entry-cost, entry-adds, other-step, step-above, run-above, covered-above}
 use Rattle.machine.specs.Reached.{reached, coveredRun, coveredMap}
 use Rattle.machine.specs.CoveredLaws.{Reaches, mark-stays, completed-marked, no-other-mark, covered-joins, covered-count}
 use Rattle.machine.specs.AppendLaws.{run-in-turn, run-stopped, covered-in-turn, covered-stopped}
@@ -45,23 +49,26 @@ use Rattle.certificate.specs.declared.NewValue.the-variants.{Within, Unknown}
 use Rattle.certificate.specs.declared.CodeAccess.{CodeAccess}
 use Rattle.certificate.specs.declared.Flow.the-variants.{Step, Call}
 use Rattle.certificate.specs.declared.Verdict.the-variants as verdict
-use Rattle.certificate.specs.Layout.{Certificate, certificateOf}
+use Rattle.certificate.specs.Layout.{Certificate, certificateFrom, certificateOf}
 use Rattle.certificate.specs.Summaries.{range, codeAccess}
-use Rattle.safety.specs.Rules.{noCell, ramEnd, Edge, low, high, codeInRom, changeOf, edge26, rule26}
+use Rattle.safety.specs.Rules.{noCell, ramEnd, Edge, low, high, worst, codeInRom, changeOf, rule20, edge26, rule26}
 use Rattle.safety.specs.Rules.Change.{changed}
 use Rattle.safety.specs.CodeRange.{loadRange}
 use Rattle.safety.specs.CodeRangeLaws.{Reaches as CodeReaches, ReachedByte, SetInRom, set-in-rom, whole-set-in-rom, unclaimed}
 use Rattle.safety.specs.CodeRangeLaws.{loaded-holds, loaded-least, loaded-greatest, loaded-direct}
 use Rattle.safety.specs.CodeLoads.{code-of-load, code-of-step, destination-of-load, destination-of-step, pair-of-step}
-use Rattle.safety.specs.Verdicts.{summaryAt, verdictOf}
+use Rattle.safety.specs.Verdicts.{summaryAt, verdictOf, Broken}
+use Rattle.safety.specs.EntryCost as cost
 use Rattle.safety.specs.Formerly as formerly
 use Rattle.safety.specs.Formerly.{verdictFormerly}
-use Rattle.safety.specs.Statement.{Schedule}
+use Rattle.safety.specs.Statement.{Schedule, Open, entered, spent, configurationOf}
 use Rattle.flag_names.specs.Stores.{storesFlags}
 use Rattle.flag_names.specs.Kept.{flagsIn, unnamed-kept, iret-named, iret-loads}
 use Rattle.flag_names.specs.Witnesses.{ChangedBy, named-changed}
 use Rattle.flag_names.specs.Compares.{EdgeFollows, CallFollows, compare-survives, compare-over-call, none-behind-call}
+use Rattle.logger_cases.specs.EntryCost as entering
 use Rattle.logger_cases.specs.Linearised as linearised
+use Rattle.logger_cases.specs.Program as program
 use Rattle.uncovered.specs.declared.Lowest.the-variants.{At, AllMarked, Refused}
 use Rattle.uncovered.specs.Lowest.{lowestOf, LowestStart}
 use Rattle.uncovered.specs.LowestLaws.{lowest-at, at-lowest, all-marked, marked-all, lowest-refused, refused-length}
@@ -76,6 +83,8 @@ use Rattle.hex_upper.specs.Former.{smallLetter, NoSmall, formerLine, formerBuff
 use Rattle.hex_upper.specs.Upper.{upperAnswer, upperLine}
 use Rattle.hex_upper.specs.SmallLetters as small
 use Rattle.hex_upper.specs.UpperTheorems as upper
+use Rattle.judge.specs.Judgement.{blankCertificate}
+use Rattle.judge.specs.JudgementLaws.{length-filled}
 use Rattle.xorshift.specs.Xorshift.{round, recordFrom, recordsFrom, stateAfter, fillAnswer, fillBuffer}
 use Rattle.xorshift.specs.RecordLaws.{length-records, records-bytes, record-made, no-other-bit}
 use Rattle.xorshift.specs.Nonzero.{round-nonzero, round-below, state-nonzero, state-below}
@@ -97,30 +106,122 @@ line-sum = sums.line-sum
 
 -- every line kept its answer: this request left `readLine` and `lineBuffer`, which the contracts of `check_line` and `read_line` name, as they were
 
+-- Request 03. Interrupt entry takes time. The chip shop measured that entering a service isn't free, and the manual prints no figure. Certificates may
+-- carry one byte more, at E482H: the cycles of an entry, 0 to 63. The entry step costs that much and the service's bound covers it, its row's bound
+-- being at least this byte plus its start's bound, else 27 at the start. A certificate of 58,498 bytes means 0; `bridgecheck` reads `cert.hex` into
+-- 58,499. A machine step or run receives the same number beside its image, and demand 3 speaks of runs that got the certificate's. Checks: 20 also for a
+-- byte above 63; 7 for any other certificate length or a step's or run's number above 63 --
+
+-- one byte more, at E482H, is the cycles of an entry
+pub byte-is-the-cost : (cert : List ℕ) (x : ℕ) → length cert ≡ shortCertificate → certificateOf (cert ++ (x ∷ [])) .entryCost ≡ x
+unfolding certificateFrom
+byte-is-the-cost cert x h = ap (λ (C : Certificate). C .entryCost) (cost.byte-behind cert x h)
+
+-- the entry step costs that much: if it is not refused, the configuration's number is added to the cycle total
+pub entry-costs : (K : Configuration) (image : List ℕ) (s : State) (rec : List ℕ) → s .cycles < 4294967296 → entryDue (requested s rec) (s .mode) ≡ true
+    → stepOf K image s rec .stop ≡ 0 → stepOf K image s rec .state .cycles ≡ (s .cycles + entryCost K) % 4294967296
+entry-costs = entry-adds
+
+-- in a run's total (`steps-and-cycles` of `Demands.antt`) such a step counts with the same number
+pub entry-counted : (K : Configuration) (image : List ℕ) (s : State) (rec : List ℕ) → entryDue (requested s rec) (s .mode) ≡ true
+    → costOf K image s rec ≡ entryCost K
+entry-counted = entry-cost
+
+-- a refused entry, as any refused step, leaves the state before it, so it costs nothing
+pub refused-entry-costs-nothing : (K : Configuration) (image : List ℕ) (s : State) (rec : List ℕ) → stepOf K image s rec .stop ≢ 0
+    → stepOf K image s rec .state ≡ s
+refused-entry-costs-nothing K image s rec = step-stops s K image rec .unchanged
+
+-- a step that is no entry is the same whatever an entry costs
+pub other-steps-same : (K : Configuration) (image : List ℕ) (s : State) (rec : List ℕ) (K′ : Configuration) → validMachine K image ≡ validMachine K′ image
+    → entryDue (requested s rec) (s .mode) ≡ false → stepOf K image s rec ≡ stepOf K′ image s rec
+other-steps-same = other-step
+
+-- demand 3 speaks of runs that got the certificate's number: `Demand3` has steps and runs with `configurationOf` alone. There the service opens with that
+-- number, and nobody else is charged
+pub certificate-number : (C : Certificate) → entryCost (configurationOf C) ≡ C .entryCost
+certificate-number C = refl
+
+pub service-opens-with : (C : Certificate) (image : List ℕ) (s : State) (o : Open) → spent C image entered s o .inner .cycles ≡ C .entryCost
+service-opens-with = cost.entry-opens
+
+pub nobody-else-charged : (C : Certificate) (image : List ℕ) (s : State) (o : Open) → spent C image entered s o .outer ≡ o .inner ∷ o .outer
+nobody-else-charged = cost.nobody-else
+
+-- the service's bound covers it: at least this byte plus its start's bound (`worst`, where the vector points), else 27 is broken there
+pub service-bound-covers : (image cert : List ℕ) → verdictOf image cert ≡ verdict.Accepted
+    → let C = certificateOf cert in C .entryCost + worst C (vectorOf image) ≤ C .bound 2
+service-bound-covers = cost.service-bound-covers
+
+pub bound-too-small : (image cert : List ℕ) → let C = certificateOf cert in Holds (rule20 C image)
+    → (C .entryCost + worst C (vectorOf image) ≤ C .bound 2 → ⊥) → Broken image cert 27 (vectorOf image)
+bound-too-small = cost.bound-too-small
+
+-- 58,498 bytes mean 0, and one byte more that is 0 changes no verdict
+pub short-means-0 : (cert : List ℕ) → length cert ≡ shortCertificate → certificateOf cert .entryCost ≡ 0
+short-means-0 = cost.short-means-zero
+
+pub byte-0-same-verdict : (image cert : List ℕ) → length cert ≡ shortCertificate → verdictOf image (cert ++ (0 ∷ [])) ≡ verdictOf image cert
+byte-0-same-verdict = cost.zero-byte-same
+
+-- `bridgecheck` reads `cert.hex` into 58,499 bytes; a HEX reader takes a certificate's buffer of either length
+pub certificate-buffer : length blankCertificate ≡ longCertificate
+certificate-buffer = length-filled longCertificate 0
+
+pub either-buffer : (bufferLength shortCertificate ≡ true) × (bufferLength longCertificate ≡ true)
+either-buffer = (refl, refl)
+
+-- 20 also for a byte above 63; 7 for any other certificate length
+pub byte-above-63 : (image cert : List ℕ) → isImageLength (length image) ≡ true → isCertificateLength (length cert) ≡ true
+    → (certificateOf cert .entryCost ≤ greatestEntryCost → ⊥) → verdictOf image cert ≡ verdict.Refused 20 (romAddr 0)
+byte-above-63 = cost.cost-above-63
+
+pub other-certificate-length : (image cert : List ℕ) → isCertificateLength (length cert) ≡ false → verdictOf image cert ≡ verdict.Refused 7 (romAddr 0)
+other-certificate-length = cost.other-length
+
+-- 7 for a step's or run's number above 63, whatever the record or schedule, and nothing is done
+pub step-number-above-63 : (K : Configuration) (image : List ℕ) (s : State) → greatestEntryCost < entryCost K → (rec : List ℕ)
+    → stepOf K image s rec ≡ refuse s 7
+step-number-above-63 = step-above
+
+pub run-number-above-63 : (K : Configuration) (image : List ℕ) (s : State) → greatestEntryCost < entryCost K → (schedule : List ℕ)
+    → runOf K image s schedule ≡ ran s 0 7
+run-number-above-63 = run-above
+
+pub covered-number-above-63 : (K : Configuration) (image : List ℕ) (s : State) → greatestEntryCost < entryCost K → (schedule m : List ℕ) → Words m
+    → (coveredRun K image s schedule (length m) ≡ ran s 0 7) × (coveredMap K image s schedule m ≡ m)
+covered-number-above-63 = covered-above
+
+-- image P with entries of 20 cycles: accepted with the service's bound at 30, refused with 29; with entries of 63 cycles: accepted with 73
+pub p-with-entries : (verdictOf (program.imageWith 0x7B) (entering.costed 20 30) ≡ verdict.Accepted)
+    × (verdictOf (program.imageWith 0x7B) (entering.costed 20 29) ≡ verdict.Refused 27 (romAddr 0x140))
+    × (verdictOf (program.imageWith 0x7B) (entering.costed 63 73) ≡ verdict.Accepted)
+p-with-entries = (entering.costed-accepted, entering.costed-refused, entering.greatest-accepted)
+
 -- Request 06. Which code has the bench reached? Testers want a map beside a run: one bit per ROM byte in 64 words of 64 bits, ascending from the first
 -- word's lowest bit, set where an instruction began, and a summary that counts the set bits. The map passed in may hold earlier runs. After a run,
 -- stopped or not, it has its old bits and those of the instructions completed in this run, no others; entries, waiting steps and stopped steps set none.
 -- The summary equals the number of distinct marked addresses, and the lowest unmarked instruction start of a given certificate is named, or none --
 
 -- the run with a map is `machine::run_covered`: it answers `coveredRun` and leaves `coveredMap`. With a map of 64 words it answers as `run`
-pub covered-as-run : (image : List ℕ) (s : State) (schedule m : List ℕ) → length m ≡ mapWords → coveredRun image s schedule (length m) ≡ runOf image s schedule
+pub covered-as-run : (K : Configuration) (image : List ℕ) (s : State) (schedule m : List ℕ) → length m ≡ mapWords → coveredRun K image s schedule (length m) ≡ runOf K image s schedule
 unfolding coveredRun
-covered-as-run image s schedule m size = rw (eqb-yes size)
+covered-as-run K image s schedule m size = rw (eqb-yes size)
 
 -- `marked m a` is the bit of address a. The old bits stay: a map never loses one
-pub old-bits-stay : (image : List ℕ) (s : State) (schedule m : List ℕ) → length m ≡ mapWords → (a : ℕ)
-    → marked m a ≡ true → marked (coveredMap image s schedule m) a ≡ true
+pub old-bits-stay : (K : Configuration) (image : List ℕ) (s : State) (schedule m : List ℕ) → length m ≡ mapWords → (a : ℕ)
+    → marked m a ≡ true → marked (coveredMap K image s schedule m) a ≡ true
 old-bits-stay = mark-stays
 
 -- the instructions completed in this run: `Reaches` has a step below the number of completed steps that completes an instruction (`Completes`: the machine
 -- runs, no entry is due, the step is not refused) and begins at the address
-pub completed-set : (image : List ℕ) (s : State) (schedule m : List ℕ) → length m ≡ mapWords → (a : ℕ)
-    → Reaches image s schedule a → marked (coveredMap image s schedule m) a ≡ true
+pub completed-set : (K : Configuration) (image : List ℕ) (s : State) (schedule m : List ℕ) → length m ≡ mapWords → (a : ℕ)
+    → Reaches K image s schedule a → marked (coveredMap K image s schedule m) a ≡ true
 completed-set = completed-marked
 
 -- no others
-pub no-others : (image : List ℕ) (s : State) (schedule m : List ℕ) → length m ≡ mapWords → (a : ℕ)
-    → marked (coveredMap image s schedule m) a ≡ true → (marked m a ≡ true) ⊎ Reaches image s schedule a
+pub no-others : (K : Configuration) (image : List ℕ) (s : State) (schedule m : List ℕ) → length m ≡ mapWords → (a : ℕ)
+    → marked (coveredMap K image s schedule m) a ≡ true → (marked m a ≡ true) ⊎ Reaches K image s schedule a
 no-others = no-other-mark
 
 -- so the map's contents are given: maps of 64 words of 64 bits with the same marks are equal
@@ -128,27 +229,27 @@ pub marks-give-the-map : (m n : List ℕ) → length m ≡ mapWords → length n
     → ((a : ℕ) → a < romLength → marked m a ≡ marked n a) → m ≡ n
 marks-give-the-map = same-marks
 
--- two runs with one map, of any images and from any states, join what each marks in an empty map
-pub maps-join : (image image′ : List ℕ) (s s′ : State) (a b m : List ℕ) → length m ≡ mapWords → Words m
-    → coveredMap image′ s′ b (coveredMap image s a m) ≡ joined (joined m (coveredMap image s a emptyMap)) (coveredMap image′ s′ b emptyMap)
+-- two runs with one map, of any configurations and images and from any states, join what each marks in an empty map
+pub maps-join : (K K′ : Configuration) (image image′ : List ℕ) (s s′ : State) (a b m : List ℕ) → length m ≡ mapWords → Words m
+    → coveredMap K′ image′ s′ b (coveredMap K image s a m) ≡ joined (joined m (coveredMap K image s a emptyMap)) (coveredMap K′ image′ s′ b emptyMap)
 maps-join = covered-joins
 
 pub joined-marks : (m n : List ℕ) (a : ℕ) → a < romLength → marked (joined m n) a ≡ (marked m a || marked n a)
 joined-marks = marked-joined
 
 -- running a and then b, if a is not stopped, answers and marks as running a ++ b
-pub in-turn : (image : List ℕ) (s : State) (a b : List ℕ) → length a % recordLength ≡ 0 → length b % recordLength ≡ 0 → runOf image s a .stop ≡ 0
-    → let first = runOf image s a in
-    let second = runOf image (first .state) b in
-    (runOf image s (a ++ b) ≡ ran (second .state) (first .steps + second .steps) (second .stop))
-    × ((m : List ℕ) → coveredMap image s (a ++ b) m ≡ coveredMap image (first .state) b (coveredMap image s a m))
-in-turn image s a b wa wb z = (run-in-turn image s a b wa wb z, covered-in-turn image s a b wa wb z)
+pub in-turn : (K : Configuration) (image : List ℕ) (s : State) (a b : List ℕ) → length a % recordLength ≡ 0 → length b % recordLength ≡ 0 → runOf K image s a .stop ≡ 0
+    → let first = runOf K image s a in
+    let second = runOf K image (first .state) b in
+    (runOf K image s (a ++ b) ≡ ran (second .state) (first .steps + second .steps) (second .stop))
+    × ((m : List ℕ) → coveredMap K image s (a ++ b) m ≡ coveredMap K image (first .state) b (coveredMap K image s a m))
+in-turn K image s a b wa wb z = (run-in-turn K image s a b wa wb z, covered-in-turn K image s a b wa wb z)
 
 -- if it is, a ++ b stops there, and marks no more
-pub stopped-first : (image : List ℕ) (s : State) (a b : List ℕ) → length a % recordLength ≡ 0 → length b % recordLength ≡ 0
-    → (runOf image s a .stop ≡ 0 → ⊥)
-    → (runOf image s (a ++ b) ≡ runOf image s a) × ((m : List ℕ) → coveredMap image s (a ++ b) m ≡ coveredMap image s a m)
-stopped-first image s a b wa wb z = (run-stopped image s a b wa wb z, covered-stopped image s a b wa wb z)
+pub stopped-first : (K : Configuration) (image : List ℕ) (s : State) (a b : List ℕ) → length a % recordLength ≡ 0 → length b % recordLength ≡ 0
+    → (runOf K image s a .stop ≡ 0 → ⊥)
+    → (runOf K image s (a ++ b) ≡ runOf K image s a) × ((m : List ℕ) → coveredMap K image s (a ++ b) m ≡ coveredMap K image s a m)
+stopped-first K image s a b wa wb z = (run-stopped K image s a b wa wb z, covered-stopped K image s a b wa wb z)
 
 -- the summary is two calls. `coverage::count` answers `markedCount`: how many of the 4096 addresses of ROM are marked. No other address is
 pub none-past-rom : (m : List ℕ) (a : ℕ) → length m ≡ mapWords → romLength ≤ a → marked m a ≡ false
@@ -158,8 +259,8 @@ none-past-rom = marked-past
 pub count-of-set-bits : (m : List ℕ) → length m ≡ mapWords → Words m → markedCount m ≡ setBits m
 count-of-set-bits = set-bits-counted
 
-pub count-of-a-run : (image : List ℕ) (s : State) (schedule : List ℕ)
-    → markedCount (coveredMap image s schedule emptyMap) ≡ count (reached image s schedule) (from romLength 0)
+pub count-of-a-run : (K : Configuration) (image : List ℕ) (s : State) (schedule : List ℕ)
+    → markedCount (coveredMap K image s schedule emptyMap) ≡ count (reached K image s schedule) (from romLength 0)
 count-of-a-run = covered-count
 
 -- `uncovered::lowest_unmarked` answers `lowestOf`: the address that it names is a start (its entry's routine is not 0) and unmarked, and every lower start
@@ -167,22 +268,22 @@ count-of-a-run = covered-count
 pub named-is-lowest : (cert m : List ℕ) (a : RomAddr) → lowestOf cert m ≡ At a → LowestStart (certificateOf cert) m (a .0)
 named-is-lowest = lowest-at
 
-pub lowest-is-named : (cert m : List ℕ) (a : ℕ) → length cert ≡ certificateLength → LowestStart (certificateOf cert) m a → lowestOf cert m ≡ At (romAddr a)
+pub lowest-is-named : (cert m : List ℕ) (a : ℕ) → isCertificateLength (length cert) ≡ true → LowestStart (certificateOf cert) m a → lowestOf cert m ≡ At (romAddr a)
 lowest-is-named = at-lowest
 
 -- none is named exactly where every start is marked
 pub none-named : (cert m : List ℕ) → lowestOf cert m ≡ AllMarked → (a : ℕ) → (certificateOf cert .routine a ≡ 0 → ⊥) → marked m a ≡ true
 none-named = all-marked
 
-pub none-to-name : (cert m : List ℕ) → length cert ≡ certificateLength → ((a : ℕ) → (certificateOf cert .routine a ≡ 0 → ⊥) → marked m a ≡ true)
+pub none-to-name : (cert m : List ℕ) → isCertificateLength (length cert) ≡ true → ((a : ℕ) → (certificateOf cert .routine a ≡ 0 → ⊥) → marked m a ≡ true)
     → lowestOf cert m ≡ AllMarked
 none-to-name = marked-all
 
 -- 7 exactly for a certificate of another length
-pub lowest-refuses : (cert m : List ℕ) (n : ℕ) → lowestOf cert m ≡ Refused n → (n ≡ 7) × (length cert ≡ certificateLength → ⊥)
+pub lowest-refuses : (cert m : List ℕ) (n : ℕ) → lowestOf cert m ≡ Refused n → (n ≡ 7) × (isCertificateLength (length cert) ≡ false)
 lowest-refuses = lowest-refused
 
-pub other-length-refused : (cert m : List ℕ) → (length cert ≡ certificateLength → ⊥) → lowestOf cert m ≡ Refused 7
+pub other-length-refused : (cert m : List ℕ) → isCertificateLength (length cert) ≡ false → lowestOf cert m ≡ Refused 7
 other-length-refused = refused-length
 
 -- Request 07. Show which flags an instruction touches. The listing we print for reviewers should name the flags among C, Z, S and V that an instruction
@@ -206,15 +307,15 @@ pub encoded-decodes-back : (before behind : List ℕ) (i : Instruction) (bs : Li
 encoded-decodes-back = encoded-decodes
 
 -- a flag not named is unchanged by the step: one that is no interrupt entry, and whose instruction does not store into FLAGS (`flag_names` S`Stores`)
-pub unnamed-flag-stays : (image : List ℕ) (s : State) (rec : List ℕ) (d : Instruction × ℕ × FlagSet) → decodeAt image (s .pc .0) ≡ value d → (g : Flag)
+pub unnamed-flag-stays : (K : Configuration) (image : List ℕ) (s : State) (rec : List ℕ) (d : Instruction × ℕ × FlagSet) → decodeAt image (s .pc .0) ≡ value d → (g : Flag)
     → flagIn g (d .2 .0) ≡ false
     → storesFlags (actionOf (d .0) (behind (s .pc) (d .1))) (requested s rec) rec (behind (s .pc) (d .1)) ≡ false
     → entryDue (requested s rec) (s .mode) ≡ false
-    → flagIn g (flagsIn (stepOf image s rec .state .regs)) ≡ flagIn g (flagsIn (s .regs))
+    → flagIn g (flagsIn (stepOf K image s rec .state .regs)) ≡ flagIn g (flagsIn (s .regs))
 unnamed-flag-stays = unnamed-kept
 
 -- each one named is changed by some step of that first byte without such a store
-pub named-flag-changes : (first : ℕ) → first < 256 → (g : Flag) → flagIn g (namesOf first .0) ≡ true → ChangedBy first g
+pub named-flag-changes : (K : Configuration) → isEntryCost (entryCost K) ≡ true → (first : ℕ) → first < 256 → (g : Flag) → flagIn g (namesOf first .0) ≡ true → ChangedBy K first g
 named-flag-changes = named-changed
 
 -- IRET names all four

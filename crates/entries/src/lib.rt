@@ -28,6 +28,9 @@ const FLOOR_AT: usize = 0xE480;
 
 const TOP_AT: usize = 0xE481;
 
+// Where the cycles of an interrupt entry stand, the last byte of a long certificate.
+const ENTRY_COST_AT: usize = 0xE482;
+
 // How many routines have rows.
 pub const ROUTINES: u8 = 64;
 
@@ -195,4 +198,11 @@ pub fn stack_top(cert: &[u8]) -> u8
     ensures { λ r. ⌜ r ≡ certificateOf (now (cert .entry)) .top ⌝ }
 {
     byte_at(cert, TOP_AT)
+}
+
+// The cycles of an interrupt entry.
+pub fn entry_cost(cert: &[u8]) -> u8
+    ensures { λ r. ⌜ r ≡ certificateOf (now (cert .entry)) .entryCost ⌝ }
+{
+    byte_at(cert, ENTRY_COST_AT)
 }

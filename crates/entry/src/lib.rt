@@ -7,6 +7,7 @@ ghost use Rattle.semantics.specs.Step.{actingRequests, entryDue, enterOf, entry
 ghost use Rattle.entry.specs.InPlace.{stateWith, coreOf, coreAfter, ended, finished};
 use base::RomAddr;
 use chip::Registers;
+use semantics::Configuration;
 use semantics::Mode;
 use semantics::Next;
 use semantics::State;
@@ -137,13 +138,10 @@ fn kept_flags(flags: u8) -> u8
     flags / 16 * 16
 }
 
-// An interrupt entry costs nothing.
-const ENTRY_COST: u8 = 0;
-
-// An interrupt entry: the program counter and FLAGS are pushed, SYM.2 becomes 0, the vector is loaded.
-pub fn enter(image: &[u8], s: Core, regs: &mut Registers) -> Ended
+// An interrupt entry: the program counter and FLAGS are pushed, SYM.2 becomes 0, the vector is loaded. It costs what the configuration says.
+pub fn enter(configuration: Configuration, image: &[u8], s: Core, regs: &mut Registers) -> Ended
     ensures regs { λ _. ⌜ now (regs .exit) ≡ enterOf (now (image .entry)) (now (regs .entry)) (s .pc) .regs ⌝ }
-    ensures ended { λ r. ⌜ r ≡ finished s (enterOf (now (image .entry)) (now (regs .entry)) (s .pc) .next) false entryCost ⌝ }
+    ensures ended { λ r. ⌜ r ≡ finished s (enterOf (now (image .entry)) (now (regs .entry)) (s .pc) .next) false (entryCost configuration) ⌝ }
 {
     let pc = s.pc;
     let address = stack::push_address(regs, pc);
@@ -155,6 +153,6 @@ pub fn enter(image: &[u8], s: Core, regs: &mut Registers) -> Ended
         s,
         operands::goes_on(address & flags, vector),
         false,
-        ENTRY_COST,
+        configuration.entry_cost,
     )
 }

@@ -16,7 +16,7 @@ use Rattle.base.specs.Addresses.{romAddr, flagsCell, spCell}
 use Rattle.base.specs.Choice.{pick}
 use Rattle.base.specs.ChoiceLaws.{pick-has}
 use Rattle.base.specs.Cells.{Bytes}
-use Rattle.base.specs.Lengths.{isImageLength, recordLength}
+use Rattle.base.specs.Lengths.{recordLength}
 use Rattle.base.specs.Formula.{le?, eqb-yes}
 use Rattle.base.specs.Outcome.Outcome.{value}
 use Rattle.isa.specs.declared.Flag.{Flag}
@@ -37,11 +37,13 @@ use Rattle.action.specs.Action.{actionOf}
 use Rattle.semantics.specs.Operands.{placeOf, fetchOf, wordAt, withFlags, spOf, lowered, raised, storeTop, pushOf, pushAddress}
 use Rattle.semantics.specs.Execute.{Executed, storeIf, codeAddress, steppedPair, carryChanged, executeOf}
 use Rattle.semantics.specs.Opened.{actionsOpened}
+use Rattle.semantics.specs.declared.Configuration.{Configuration}
 use Rattle.semantics.specs.declared.Mode.{Mode}
 use Rattle.semantics.specs.declared.Mode.the-variants.{Running, Idle, Stopped}
 use Rattle.semantics.specs.declared.State.{State}
 use Rattle.semantics.specs.declared.Stepped.{Stepped}
-use Rattle.semantics.specs.Step.{Acted, requested, entryDue, behind, finishOf, afterDecode, instructionAct, waitingAct, modeAct, actAfterRequests, actedOf, settled, stepOf}
+use Rattle.semantics.specs.Step.{Acted, requested, entryDue, behind, finishOf, afterDecode, instructionAct, waitingAct, modeAct, actAfterRequests, actedOf, settled}
+use Rattle.semantics.specs.Step.{validMachine, stepOf}
 use Rattle.safety.specs.Invariant.{Shaped}
 use Rattle.safety.specs.DecodedShape.{decoded-shaped}
 use Rattle.flag_names.specs.Stores.{pushedTo, storedTo, storesFlags}
@@ -166,7 +168,8 @@ module _ (g : Flag) (n : FlagSet) (u : flagIn g (n .0) ≡ false) (image regs re
 requested-kept : (s : State) (rec : List ℕ) → flagsIn (requested s rec) ≡ flagsIn (s .regs)
 requested-kept s rec = post-other (s .regs) _ flagsCell (omega arith) (omega arith) (omega arith) (omega arith)
 
-module _ (image : List ℕ) (s : State) (rec : List ℕ) (d : Instruction × ℕ × FlagSet) (found : decodeAt image (s .pc .0) ≡ value d) (g : Flag) where
+module _ (K : Configuration) (image : List ℕ) (s : State) (rec : List ℕ) (d : Instruction × ℕ × FlagSet) (found : decodeAt image (s .pc .0) ≡ value d)
+    (g : Flag) where
   -- the instruction at the program counter, and the address behind it
   abbrev nextHere : RomAddr
   nextHere = behind (s .pc) (d .1)
@@ -199,15 +202,15 @@ module _ (image : List ℕ) (s : State) (rec : List ℕ) (d : Instruction × ℕ
     mode-same Idle = waiting-same
     mode-same Stopped = waiting-same
 
-    act-same : entryDue (requested s rec) (s .mode) ≡ false → SameIn (actedOf image s rec .state)
+    act-same : entryDue (requested s rec) (s .mode) ≡ false → SameIn (actedOf K image s rec .state)
     unfolding actedOf actAfterRequests
     act-same e = rw e (mode-same (s .mode))
 
     -- a flag that is not named is the same after the step, unless the step is an interrupt entry or the instruction stores into FLAGS
-    pub unnamed-kept : entryDue (requested s rec) (s .mode) ≡ false → SameIn (stepOf image s rec .state)
+    pub unnamed-kept : entryDue (requested s rec) (s .mode) ≡ false → SameIn (stepOf K image s rec .state)
     unfolding stepOf settled
     unnamed-kept e =
-        pick-has (λ (r : Stepped). SameIn (r .state)) (isImageLength (length image) && eqb (length rec) recordLength) _ _ (λ _. act-same e) (λ _. refl)
+        pick-has (λ (r : Stepped). SameIn (r .state)) (validMachine K image && eqb (length rec) recordLength) _ _ (λ _. act-same e) (λ _. refl)
 
 -- IRET names all four flags
 pub iret-named : (s : List ℕ) → Bytes s → (at : ℕ) (d : Instruction × ℕ × FlagSet) → decodeAt s at ≡ value d → d .0 ≡ Instruction.Implied Implied.Iret

@@ -10,17 +10,17 @@ use certificate::Verdict;
 use hex_text::Text;
 use hex_write::Written;
 
-// The buffers before the files are read.
+// The buffers before the files are read. A file without the byte at E482H leaves 0 there.
 pub fn blank_image() -> [u8; base::IMAGE_LENGTH]
     ensures { λ r. ⌜ r ≡ blankImage ⌝ }
 {
     [0xFF; base::IMAGE_LENGTH]
 }
 
-pub fn blank_certificate() -> [u8; base::CERTIFICATE_LENGTH]
+pub fn blank_certificate() -> [u8; base::LONG_CERTIFICATE]
     ensures { λ r. ⌜ r ≡ blankCertificate ⌝ }
 {
-    [0; base::CERTIFICATE_LENGTH]
+    [0; base::LONG_CERTIFICATE]
 }
 
 // A refused image file decides, then a refused certificate file, then the checker's verdict.

@@ -3,7 +3,7 @@
 use mathlib.Core.Path.{_≡_, refl, _∙_, ap}
 use mathlib.Core.Bool.{Bool, true, false}
 use mathlib.Core.List.{List, [], _∷_, _++_}
-use Prim.Native.Nat.{ℕ, _-_, _≤_}
+use Prim.Native.Nat.{ℕ, _+_, _-_, _≤_}
 use Prim.Native.Char.{code}
 use Prim.Native.String.{String}
 use Prim.Native.String as text
@@ -11,7 +11,7 @@ use lib.Dec.{T}
 use lib.ListN.{length, getD, replicate, set}
 use Rattle.base.specs.Addresses.{romAddr, spCell}
 use Rattle.base.specs.Formula.{decide}
-use Rattle.base.specs.Lengths.{romLength, recordLength}
+use Rattle.base.specs.Lengths.{romLength, isCertificateLength, recordLength}
 use Rattle.isa.specs.declared.Alu.{Alu}
 use Rattle.isa.specs.declared.Unary.{Unary}
 use Rattle.isa.specs.declared.FlagSet.{FlagSet}
@@ -31,7 +31,7 @@ use Rattle.safety.specs.Verdicts.{rulesAt, scan, verdictOf}
 use Rattle.report.specs.Report.{reportText}
 use Rattle.logger_cases.specs.Gathered.{listed-none}
 use Rattle.logger_cases.specs.Computed.{layout, tables, certificate-tables, verdict-tables}
-use Rattle.logger_cases.specs.Program.{imageWith, entries, entry, cell, row, certificateWith, entry-length, cell-length, row-length}
+use Rattle.logger_cases.specs.Program.{imageWith, entries, entry, cell, row, certificateFor, ends, certificateWith, entry-length, cell-length, row-length}
 use Rattle.logger_cases.specs.Opened.{opened}
 
 -- CALL 0521H stands at 0A47H
@@ -66,7 +66,7 @@ Leaves n r v f = (r .value ≡ v) × ((before : ℕ) → update before n (r .fla
 abbrev pub CaseHolds : Case → Type 0
 CaseHolds (operates op x y c v f) = Leaves (aluNames op) (operate op x y c) v f
 CaseHolds (modifies op x v f) = (c : Bool) → Leaves (unaryNames op) (modify op x c) v f
-CaseHolds (steps image pc sp a v) = (stepOf image (stateAt pc sp) (replicate recordLength 0) .stop ≡ 0) × (getD (stepOf image (stateAt pc sp) (replicate recordLength 0) .state .regs) a 0 ≡ v)
+CaseHolds (steps image pc sp a v) = (stepOf (record { «entry_cost» = 0 }) image (stateAt pc sp) (replicate recordLength 0) .stop ≡ 0) × (getD (stepOf (record { «entry_cost» = 0 }) image (stateAt pc sp) (replicate recordLength 0) .state .regs) a 0 ≡ v)
 CaseHolds (stores a old v new) = keptOf a old v ≡ new
 CaseHolds (judges image cert v s) = (verdictOf image cert ≡ v) × (reportText (verdictOf image cert) (certificateOf cert) ≡ ascii s)
 
@@ -132,37 +132,38 @@ unfolding entry
 none-behind = listed-none 14 entries codeEnd refl
 
 -- the certificate by tables
-abbrev tablesP : ℕ → ℕ → Certificate
-tablesP bound floor = tables entry cell (row bound) floor entry-length cell-length (row-length bound)
+abbrev tablesP : ℕ → ℕ → List ℕ → Certificate
+tablesP service bound ends = tables entry cell (row service bound) ends entry-length cell-length (row-length service bound)
 
-on-tables : (j bound floor : ℕ) (v : Verdict) (s : String) → T (decide (layout (tablesP bound floor) (imageWith j) codeEnd))
-    → scan (tablesP bound floor) (imageWith j) romLength 0 ≡ v → reportText v (tablesP bound floor) ≡ ascii s
-    → CaseHolds (judges (imageWith j) (certificateWith bound floor) v s)
-unfolding certificateWith
-on-tables j bound floor v s t e q =
-    let p = verdict-tables entry cell (row bound) floor entry-length cell-length (row-length bound) codeEnd none-behind rulesAt (imageWith j) (image-length j) t e in
-    let c = certificate-tables entry cell (row bound) floor entry-length cell-length (row-length bound) in
-    (p, ap (λ w. reportText w (certificateOf (certificateWith bound floor))) p ∙ ap (reportText v) c ∙ q)
+pub on-tables : (j service bound : ℕ) (ends : List ℕ) → isCertificateLength (0xE480 + length ends) ≡ true → (v : Verdict) (s : String)
+    → T (decide (layout (tablesP service bound ends) (imageWith j) codeEnd)) → scan (tablesP service bound ends) (imageWith j) romLength 0 ≡ v
+    → reportText v (tablesP service bound ends) ≡ ascii s → CaseHolds (judges (imageWith j) (certificateFor service bound ends) v s)
+unfolding certificateFor
+on-tables j service bound ends size v s t e q =
+    let rows = row-length service bound in
+    let p = verdict-tables entry cell (row service bound) ends entry-length cell-length rows codeEnd none-behind rulesAt (imageWith j) (image-length j) size t e in
+    let c = certificate-tables entry cell (row service bound) ends entry-length cell-length rows in
+    (p, ap (λ w. reportText w (certificateOf (certificateFor service bound ends))) p ∙ ap (reportText v) c ∙ q)
 
 case-i : CaseHolds (acceptedP 0xA0)
 unfolding opened
-case-i = on-tables 0x7B 364 0xA0 Accepted printedP tt refl refl
+case-i = on-tables 0x7B 10 364 (ends 0xA0) refl Accepted printedP tt refl refl
 
 case-j : CaseHolds (judges (imageWith 0x3B) (certificateWith 364 0xA0) (Refused 26 (romAddr 0x128)) "refused 26 0128\n")
 unfolding opened
-case-j = on-tables 0x3B 364 0xA0 (Refused 26 (romAddr 0x128)) "refused 26 0128\n" tt refl refl
+case-j = on-tables 0x3B 10 364 (ends 0xA0) refl (Refused 26 (romAddr 0x128)) "refused 26 0128\n" tt refl refl
 
 case-k : CaseHolds (judges (imageWith 0x7B) (certificateWith 363 0xA0) (Refused 27 (romAddr 0x120)) "refused 27 0120\n")
 unfolding opened
-case-k = on-tables 0x7B 363 0xA0 (Refused 27 (romAddr 0x120)) "refused 27 0120\n" tt refl refl
+case-k = on-tables 0x7B 10 363 (ends 0xA0) refl (Refused 27 (romAddr 0x120)) "refused 27 0120\n" tt refl refl
 
 case-l : CaseHolds (acceptedP 0xBB)
 unfolding opened
-case-l = on-tables 0x7B 364 0xBB Accepted printedP tt refl refl
+case-l = on-tables 0x7B 10 364 (ends 0xBB) refl Accepted printedP tt refl refl
 
 case-l-refused : CaseHolds (judges (imageWith 0x7B) (certificateWith 364 0xBC) (Refused 25 (romAddr 0x100)) "refused 25 0100\n")
 unfolding opened
-case-l-refused = on-tables 0x7B 364 0xBC (Refused 25 (romAddr 0x100)) "refused 25 0100\n" tt refl refl
+case-l-refused = on-tables 0x7B 10 364 (ends 0xBC) refl (Refused 25 (romAddr 0x100)) "refused 25 0100\n" tt refl refl
 
 case-g : CaseHolds (steps callImage 0xA47 0xB2 0xB0 0x0A) × CaseHolds (steps callImage 0xA47 0xB2 0xB1 0x4A)
 unfolding opened callImage stateAt resetState

@@ -5,11 +5,11 @@ use mathlib.Core.Path.{_≡_, refl, sym}
 use mathlib.Core.Logic.{⊎-elim}
 use mathlib.Core.Bool.{Bool, true, false}
 use mathlib.Core.List.{List}
-use Prim.Native.Nat.{ℕ, _≤_}
+use Prim.Native.Nat.{ℕ, _+_, _≤_}
 use lib.Dec.{T, ltb}
-use lib.ListN.{length, replicate}
+use lib.ListN.{length, getD, replicate}
 use Rattle.base.specs.Formula.{Formula, Holds, decide, sound, decide-yes, le?, _&_, forallBelow}
-use Rattle.base.specs.Lengths.{romLength}
+use Rattle.base.specs.Lengths.{romLength, isCertificateLength}
 use Rattle.certificate.specs.declared.Verdict.{Verdict}
 use Rattle.certificate.specs.Layout.{Certificate, certificateFrom, certificateOf}
 use Rattle.safety.specs.Rules.{emptyEntry, addressRule, rule20}
@@ -36,18 +36,18 @@ module _ (rules : Rules) (C : Certificate) (image : List ℕ) (codeEnd : ℕ) (b
       let (fixed, (cells, (starts, entries))) = sound (layout C image codeEnd) t in
       rw (verdictOnBy, sym (decide-yes (rule20 C image) (rule20-join C image fixed cells starts (addresses entries)))) e
 
--- A certificate given by tables; the top is C0H --
+-- A certificate given by tables, and what stands behind them --
 
-module _ (entry cell row : ℕ → List ℕ) (floor : ℕ)
+module _ (entry cell row : ℕ → List ℕ) (ends : List ℕ)
     (entries : (k : ℕ) → length (entry k) ≡ 14) (cells : (k : ℕ) → length (cell k) ≡ 3) (rows : (k : ℕ) → length (row k) ≡ 6) where
   abbrev pub tables : Certificate
-  tables = certificateFrom (upTo romLength entry) (upTo 256 cell) (upTo 64 row) floor 0xC0
+  tables = certificateFrom (upTo romLength entry) (upTo 256 cell) (upTo 64 row) (getD ends 0 0) (getD ends 1 0) (getD ends 2 0)
 
   abbrev pub bytes : List ℕ
-  bytes = certificateBytes entry cell row floor 0xC0
+  bytes = certificateBytes entry cell row ends
 
   pub certificate-tables : certificateOf bytes ≡ tables
-  certificate-tables = certificate-is entry cell row floor 0xC0 entries cells rows
+  certificate-tables = certificate-is entry cell row ends entries cells rows
 
   module _ (codeEnd : ℕ) (none : (a : ℕ) → codeEnd ≤ a → entry a ≡ replicate 14 0) where
     behind-code : NoneBehind tables codeEnd
@@ -58,8 +58,8 @@ module _ (entry cell row : ℕ → List ℕ) (floor : ℕ)
         by-end true e = rw (e, none a h) tt
         by-end false e = rw e tt
 
-    pub verdict-tables : (rules : Rules) (image : List ℕ) → length image ≡ romLength → {v : Verdict}
+    pub verdict-tables : (rules : Rules) (image : List ℕ) → length image ≡ romLength → isCertificateLength (0xE480 + length ends) ≡ true → {v : Verdict}
         → T (decide (layout tables image codeEnd)) → scanBy rules tables image romLength 0 ≡ v → verdictBy rules image bytes ≡ v
     unfolding verdictBy
-    verdict-tables rules image size t e =
-        rw (size, bytes-length entry cell row floor 0xC0 entries cells rows, certificate-tables) (verdict-by rules tables image codeEnd behind-code t e)
+    verdict-tables rules image size size′ t e =
+        rw (size, bytes-length entry cell row ends entries cells rows, size′, certificate-tables) (verdict-by rules tables image codeEnd behind-code t e)

@@ -24,7 +24,7 @@ use Rattle.certificate.specs.Layout.{Certificate, certificateFrom, certificateO
 use Rattle.safety.specs.Statement.{Event, executed, eventOf, Monitored, actedState, monitorStep, EventRight, StepRight, Walk, fromReset, Schedule, Demand3}
 use Rattle.safety.specs.Theorem.{demand3}
 use Rattle.logger_cases.specs.Gathered.{gathered, upTo, certificateBytes, certificate-is}
-use Rattle.logger_cases.specs.Program.{imageWith, entry, cell, row, certificateWith, entry-length, cell-length, row-length}
+use Rattle.logger_cases.specs.Program.{imageWith, entry, cell, row, certificateFor, ends, certificateWith, entry-length, cell-length, row-length}
 use Rattle.logger_cases.specs.Cases.{accepted-p}
 
 -- image P and its certificate
@@ -49,23 +49,23 @@ unfolding imageWith
 image-bytes = tt
 
 certificate-bytes : T (allBytes certificate)
-unfolding certificateWith certificateBytes gathered entry cell row
+unfolding certificateFor certificateBytes gathered entry cell row
 certificate-bytes = tt
 
 pub demand-met : Demand3 (certificateOf certificate) image
 demand-met = demand3 image certificate (bytes-of image image-bytes) (bytes-of certificate certificate-bytes) accepted-p
 
 -- the only table is 00H to 0FH
-tables-table : (x : ℕ) → x < 256 → certificateFrom (upTo romLength entry) (upTo 256 cell) (upTo 64 (row 364)) 0xA0 0xC0 .table x ≢ 0 → x < 16
+tables-table : (x : ℕ) → x < 256 → certificateFrom (upTo romLength entry) (upTo 256 cell) (upTo 64 (row 10 364)) 0xA0 0xC0 0 .table x ≢ 0 → x < 16
 unfolding certificateFrom cell
 tables-table x h n =
-    sound (forallBelow 256 (λ (x : ℕ). neg (eq (certificateFrom (upTo romLength entry) (upTo 256 cell) (upTo 64 (row 364)) 0xA0 0xC0 .table x) 0) ⇒ lt x 16)) tt x h n
+    sound (forallBelow 256 (λ (x : ℕ). neg (eq (certificateFrom (upTo romLength entry) (upTo 256 cell) (upTo 64 (row 10 364)) 0xA0 0xC0 0 .table x) 0) ⇒ lt x 16)) tt x h n
 
 table-is : (x : ℕ) → x < 256 → certificateOf certificate .table x ≢ 0 → x < 16
-unfolding certificateWith
+unfolding certificateFor
 table-is x h n =
-    let e : certificateOf certificate ≡ certificateFrom (upTo romLength entry) (upTo 256 cell) (upTo 64 (row 364)) 0xA0 0xC0
-    = certificate-is entry cell (row 364) 0xA0 0xC0 entry-length cell-length (row-length 364) in
+    let e : certificateOf certificate ≡ certificateFrom (upTo romLength entry) (upTo 256 cell) (upTo 64 (row 10 364)) 0xA0 0xC0 0
+    = certificate-is entry cell (row 10 364) (ends 0xA0) entry-length cell-length (row-length 10 364) in
     tables-table x h (λ z. n (ap (λ (C : Certificate). C .table x) e ∙ z))
 
 -- the machine with its open routines after k records from record i on
@@ -104,7 +104,7 @@ gauges-in-table s reset schedule sc k h next e =
     let z : 0 + k ≡ k = omega arith in
     let there = walk-at (length schedule / recordLength) tables schedule 0 start w k h in
     let r : StepRight C image tables m inputs = subst (λ (j : ℕ). StepRight C image tables m (recordAt schedule j)) z there in
-    let to = actedState image m inputs .pc .0 in
+    let to = actedState C image m inputs .pc .0 in
     let p = subst (λ (x : Event). EventRight C image tables m inputs x to) e (r .event) .pointers .1 in
     let regs = requested (m .state) inputs in
     table-is (placeOf regs inputs (Indirect (regAddr 0xC2) 0) .addr .0) (small regs inputs) (λ q. p .1 (sym (p .0) ∙ q))

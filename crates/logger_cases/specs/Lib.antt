@@ -1,5 +1,6 @@
 pub mod Cases
 pub mod Computed
+pub mod EntryCost
 pub mod Gathered
 pub mod Gauges
 pub mod Linearised

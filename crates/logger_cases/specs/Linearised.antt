@@ -56,7 +56,10 @@ cells =
 abbrev pub rows : List (ℕ × List ℕ)
 rows = (1, 0x01 ∷ 0x00 ∷ 1 ∷ 0 ∷ 0 ∷ 0 ∷ []) ∷ (2, 0x01 ∷ 0x40 ∷ 2 ∷ 0 ∷ 0 ∷ 10 ∷ []) ∷ []
 
--- the certificate, the floor A0H
+-- the certificate: the floor A0H, the top C0H
+abbrev ends : List ℕ
+ends = 0xA0 ∷ 0xC0 ∷ []
+
 unfoldable pub entry : ℕ → List ℕ
 entry = listed 14 entries
 
@@ -67,7 +70,7 @@ unfoldable pub row : ℕ → List ℕ
 row = listed 6 rows
 
 unfoldable pub certificate : List ℕ
-certificate = certificateBytes entry cell row 0xA0 0xC0
+certificate = certificateBytes entry cell row ends
 
 entry-length : (k : ℕ) → length (entry k) ≡ 14
 unfolding entry
@@ -94,12 +97,12 @@ unfolding entry
 none-behind = listed-none 14 entries codeEnd refl
 
 abbrev judged : Certificate
-judged = tables entry cell row 0xA0 entry-length cell-length row-length
+judged = tables entry cell row ends entry-length cell-length row-length
 
 on-tables : (rules : Rules) (b : ℕ) {v : Verdict} → T (decide (layout judged (imageWith b) codeEnd)) → scanBy rules judged (imageWith b) romLength 0 ≡ v
     → verdictBy rules (imageWith b) certificate ≡ v
 unfolding certificate
-on-tables rules b t e = verdict-tables entry cell row 0xA0 entry-length cell-length row-length codeEnd none-behind rules (imageWith b) (image-length b) t e
+on-tables rules b t e = verdict-tables entry cell row ends entry-length cell-length row-length codeEnd none-behind rules (imageWith b) (image-length b) refl t e
 
 -- every byte of the table is 00H to 0FH
 pub linearised-accepted : verdictOf (imageWith 6) certificate ≡ Accepted

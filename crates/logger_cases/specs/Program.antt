@@ -1,4 +1,5 @@
--- Image P of 01 and its certificate, at full size. The byte, bound and floor in which cases (i) to (l) differ are parameters.
+-- Image P of 01 and its certificate, at full size. The byte, the bounds and what stands from E480H on, in which the cases differ,
+-- are parameters.
 -- Assumes nothing.
 use mathlib.Core.Path.{_≡_, refl}
 use mathlib.Core.List.{List, [], _∷_, _++_}
@@ -52,17 +53,24 @@ cellRows = (0xC2, 1 ∷ 3 ∷ 0 ∷ []) ∷ (0xC3, 1 ∷ 3 ∷ 0 ∷ []) ∷ []
 unfoldable pub cell : ℕ → List ℕ
 cell x = pick (ltb x 16) (0 ∷ 0 ∷ 1 ∷ []) (listed 3 cellRows x)
 
--- main, the service, routine 3 with its bound
-abbrev pub rows : ℕ → List (ℕ × List ℕ)
-rows bound =
-    (1, 0x01 ∷ 0x00 ∷ 1 ∷ 2 ∷ 0 ∷ 0 ∷ []) ∷ (2, 0x01 ∷ 0x40 ∷ 2 ∷ 0 ∷ 0 ∷ 10 ∷ []) ∷ (3, 0x01 ∷ 0x20 ∷ 1 ∷ 0 ∷ bound / 256 ∷ bound % 256 ∷ []) ∷ []
+-- main, the service and routine 3, each of these with its bound
+abbrev pub rows : ℕ → ℕ → List (ℕ × List ℕ)
+rows service bound =
+    (1, 0x01 ∷ 0x00 ∷ 1 ∷ 2 ∷ 0 ∷ 0 ∷ []) ∷ (2, 0x01 ∷ 0x40 ∷ 2 ∷ 0 ∷ service / 256 ∷ service % 256 ∷ []) ∷ (3, 0x01 ∷ 0x20 ∷ 1 ∷ 0 ∷ bound / 256 ∷ bound % 256 ∷ []) ∷ []
 
-unfoldable pub row : ℕ → ℕ → List ℕ
-row bound = listed 6 (rows bound)
+unfoldable pub row : ℕ → ℕ → ℕ → List ℕ
+row service bound = listed 6 (rows service bound)
 
--- the whole certificate: T is C0H
-unfoldable pub certificateWith : ℕ → ℕ → List ℕ
-certificateWith bound floor = certificateBytes entry cell (row bound) floor 0xC0
+-- the whole certificate, with the bounds of the service and of routine 3
+unfoldable pub certificateFor : ℕ → ℕ → List ℕ → List ℕ
+certificateFor service bound ends = certificateBytes entry cell (row service bound) ends
+
+-- 01's: the service's bound is 10, T is C0H, an entry takes no cycles
+abbrev pub ends : ℕ → List ℕ
+ends floor = floor ∷ 0xC0 ∷ []
+
+abbrev pub certificateWith : ℕ → ℕ → List ℕ
+certificateWith bound floor = certificateFor 10 bound (ends floor)
 
 pub entry-length : (k : ℕ) → length (entry k) ≡ 14
 unfolding entry
@@ -73,6 +81,6 @@ unfolding cell
 cell-length k =
     pick-has (λ (l : List ℕ). length l ≡ 3) (ltb k 16) (0 ∷ 0 ∷ 1 ∷ []) (listed 3 cellRows k) (λ _. refl) (λ _. listed-length 3 cellRows tt k)
 
-pub row-length : (bound k : ℕ) → length (row bound k) ≡ 6
+pub row-length : (service bound k : ℕ) → length (row service bound k) ≡ 6
 unfolding row
-row-length bound = listed-length 6 (rows bound) tt
+row-length service bound = listed-length 6 (rows service bound) tt

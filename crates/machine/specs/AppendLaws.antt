@@ -15,11 +15,12 @@ use borrow.Author.Tests.{eqb-true, eqb-false}
 use Rattle.base.specs.Choice.{pick}
 use Rattle.base.specs.ChoiceLaws.{pick-has}
 use Rattle.base.specs.Formula.{eqb-yes, eqb-no, case-bool}
-use Rattle.base.specs.Lengths.{isImageLength, recordLength}
+use Rattle.base.specs.Lengths.{recordLength}
+use Rattle.semantics.specs.declared.Configuration.{Configuration}
 use Rattle.semantics.specs.declared.State.{State}
 use Rattle.semantics.specs.declared.Stepped.{Stepped}
 use Rattle.semantics.specs.declared.Ran.{Ran}
-use Rattle.semantics.specs.Step.{actedOf, stepOf}
+use Rattle.semantics.specs.Step.{validMachine, actedOf, stepOf}
 use Rattle.semantics.specs.Run.{ran, recordAt, runFrom, runOf}
 use Rattle.coverage.specs.Map.{isMapLength, marked, mapOf}
 use Rattle.coverage.specs.MapLaws.{length-map-of, marked-map-of, same-map-of}
@@ -36,20 +37,20 @@ record Counts (k c : ℕ) (r : Ran) : Type 0 where
   few : c ≤ k
   all : r .stop ≡ 0 → c ≡ k
 
-from-counts : (k : ℕ) (image schedule : List ℕ) (i : ℕ) (s : State)
-    → Counts k (completedOf k image schedule i s) (runFrom k image schedule i s)
+from-counts : (k : ℕ) (K : Configuration) (image schedule : List ℕ) (i : ℕ) (s : State)
+    → Counts k (completedOf k K image schedule i s) (runFrom k K image schedule i s)
 unfolding runFrom completedOf
-from-counts zero image schedule i s = record { few = omega arith; all = λ _. refl }
-from-counts (suc k) image schedule i s = on (eqb (r .stop) 0) refl (from-counts k image schedule (i + 1) (r .state))
+from-counts zero K image schedule i s = record { few = omega arith; all = λ _. refl }
+from-counts (suc k) K image schedule i s = on (eqb (r .stop) 0) refl (from-counts k K image schedule (i + 1) (r .state))
   where
     r : Stepped
-    r = stepOf image s (recordAt schedule i)
+    r = stepOf K image s (recordAt schedule i)
 
     x : Ran
-    x = runFrom k image schedule (i + 1) (r .state)
+    x = runFrom k K image schedule (i + 1) (r .state)
 
     c : ℕ
-    c = completedOf k image schedule (i + 1) (r .state)
+    c = completedOf k K image schedule (i + 1) (r .state)
 
     on : (b : Bool) → eqb (r .stop) 0 ≡ b → Counts k c x → Counts (suc k) (fork b (suc c) 0) (fork b x (ran (r .state) i (r .stop)))
     on true e h = record { few = omega arith; all = λ z. ap suc (h .all z) }
@@ -70,30 +71,30 @@ module _ (k : ℕ) (a : List ℕ) (i : ℕ) (b : List ℕ) (j : ℕ) (same : Sam
       rw (e, f) (same (suc n) (omega arith))
 
 -- a run over records of a whole, of which the first k are those of a part: the run over the part, and if it is not refused over n records more
-module _ (image whole part : List ℕ) (n : ℕ) where
+module _ (K : Configuration) (image whole part : List ℕ) (n : ℕ) where
   abbrev goOn : ℕ → ℕ → Ran → Ran
-  goOn i steps r = pick (eqb (r .stop) 0) (runFrom n image whole i (r .state)) (ran (r .state) steps (r .stop))
+  goOn i steps r = pick (eqb (r .stop) 0) (runFrom n K image whole i (r .state)) (ran (r .state) steps (r .stop))
 
   run-then : (k i j : ℕ) (s : State) → Same k whole i part j
-      → runFrom (k + n) image whole i s ≡ goOn (i + k) (i + completedOf k image part j s) (runFrom k image part j s)
+      → runFrom (k + n) K image whole i s ≡ goOn (i + k) (i + completedOf k K image part j s) (runFrom k K image part j s)
   unfolding runFrom completedOf
   run-then zero i j s same = rw (zero-add n, add-zero i)
   run-then (suc k) i j s same =
       rw (suc-add k n)
-      (ap (λ (q : List ℕ). first (eqb (stepOf image s q .stop) 0) (stepOf image s q)) (same-first k whole i part j same)
+      (ap (λ (q : List ℕ). first (eqb (stepOf K image s q .stop) 0) (stepOf K image s q)) (same-first k whole i part j same)
       ∙ on (eqb (r .stop) 0) refl (run-then k (i + 1) (j + 1) (r .state) (same-rest k whole i part j same)))
     where
       r : Stepped
-      r = stepOf image s (recordAt part j)
+      r = stepOf K image s (recordAt part j)
 
       x : Ran
-      x = runFrom k image part (j + 1) (r .state)
+      x = runFrom k K image part (j + 1) (r .state)
 
       c : ℕ
-      c = completedOf k image part (j + 1) (r .state)
+      c = completedOf k K image part (j + 1) (r .state)
 
       first : Bool → Stepped → Ran
-      first b q = fork b (runFrom (k + n) image whole (i + 1) (q .state)) (ran (q .state) i (q .stop))
+      first b q = fork b (runFrom (k + n) K image whole (i + 1) (q .state)) (ran (q .state) i (q .stop))
 
       on : (b : Bool) → eqb (r .stop) 0 ≡ b → first true r ≡ goOn (i + 1 + k) (i + 1 + c) x
           → first b r ≡ goOn (i + suc k) (i + fork b (suc c) 0) (fork b x (ran (r .state) j (r .stop)))
@@ -101,31 +102,31 @@ module _ (image whole part : List ℕ) (n : ℕ) where
       on false e h = rw (e, add-zero i)
 
 -- over no more
-run-same : (image whole part : List ℕ) (k i : ℕ) (s : State) → Same k whole i part 0
-    → let r = runFrom k image part 0 s in runFrom k image whole i s ≡ ran (r .state) (i + completedOf k image part 0 s) (r .stop)
+run-same : (K : Configuration) (image whole part : List ℕ) (k i : ℕ) (s : State) → Same k whole i part 0
+    → let r = runFrom k K image part 0 s in runFrom k K image whole i s ≡ ran (r .state) (i + completedOf k K image part 0 s) (r .stop)
 unfolding runFrom
-run-same image whole part k i s same =
-    let r = runFrom k image part 0 s in
-    ap (λ (l : ℕ). runFrom l image whole i s) (sym (add-zero k)) ∙ run-then image whole part 0 k i 0 s same
-    ∙ pick-has (λ (x : Ran). x ≡ ran (r .state) (i + completedOf k image part 0 s) (r .stop)) (eqb (r .stop) 0) _ _
-    (λ e. let z = eqb-true (r .stop) 0 e in rw (z, from-counts k image part 0 s .all z)) (λ _. refl)
+run-same K image whole part k i s same =
+    let r = runFrom k K image part 0 s in
+    ap (λ (l : ℕ). runFrom l K image whole i s) (sym (add-zero k)) ∙ run-then K image whole part 0 k i 0 s same
+    ∙ pick-has (λ (x : Ran). x ≡ ran (r .state) (i + completedOf k K image part 0 s) (r .stop)) (eqb (r .stop) 0) _ _
+    (λ e. let z = eqb-true (r .stop) 0 e in rw (z, from-counts k K image part 0 s .all z)) (λ _. refl)
 
 -- behind m records of a whole, its next k records being those of a part: the state behind them, and what begins at each
-module _ (image whole part : List ℕ) (m : ℕ) (s t : State) (e : stateBehind m image whole 0 s ≡ t) where
-  behind-then : (k : ℕ) → Same k whole m part 0 → stateBehind (m + k) image whole 0 s ≡ stateBehind k image part 0 t
+module _ (K : Configuration) (image whole part : List ℕ) (m : ℕ) (s t : State) (e : stateBehind m K image whole 0 s ≡ t) where
+  behind-then : (k : ℕ) → Same k whole m part 0 → stateBehind (m + k) K image whole 0 s ≡ stateBehind k K image part 0 t
   unfolding stateBehind
   behind-then zero same = rw (add-zero m) e
   behind-then (suc k) same =
       rw (add-suc m k)
-      (state-more (m + k) image whole s
-      ∙ ap₂ (λ (x : State) (q : List ℕ). stepOf image x q .state) (behind-then k (λ n l. same n (omega arith)))
+      (state-more (m + k) K image whole s
+      ∙ ap₂ (λ (x : State) (q : List ℕ). stepOf K image x q .state) (behind-then k (λ n l. same n (omega arith)))
       (rw (zero-add k) at (same k (omega arith)))
-      ∙ sym (state-more k image part t))
+      ∙ sym (state-more k K image part t))
 
-  begins-then : (k : ℕ) → Same k whole m part 0 → (x j : ℕ) → j < k → beginsAt image s whole x (m + j) ≡ beginsAt image t part x j
+  begins-then : (k : ℕ) → Same k whole m part 0 → (x j : ℕ) → j < k → beginsAt K image s whole x (m + j) ≡ beginsAt K image t part x j
   unfolding beginsAt
   begins-then k same x j l =
-      ap₂ (λ (y : State) (q : List ℕ). actedOf image y q .retired && eqb (y .pc .0) x) (behind-then j (λ n h. same n (omega arith)))
+      ap₂ (λ (y : State) (q : List ℕ). actedOf K image y q .retired && eqb (y .pc .0) x) (behind-then j (λ n h. same n (omega arith)))
       (rw (zero-add j) at (same j l))
 
 -- a test below m + n, in two parts
@@ -141,30 +142,30 @@ pick-each : {A : Type 0} (b : Bool) (x y p q : A) → (b ≡ true → x ≡ p) �
 pick-each true x y p q f g = f refl
 pick-each false x y p q f g = g refl
 
--- a run over a whole schedule, by the tests of its lengths
-module _ (image : List ℕ) (s : State) (schedule : List ℕ) where
+-- a run over a whole schedule, by the tests before it
+module _ (K : Configuration) (image : List ℕ) (s : State) (schedule : List ℕ) where
   abbrev records : ℕ
   records = length schedule / recordLength
 
-  counts : Counts records (completedSteps image s schedule) (runOf image s schedule)
+  counts : Counts records (completedSteps K image s schedule) (runOf K image s schedule)
   unfolding runOf completedSteps
-  counts = on (isImageLength (length image) && eqb (length schedule % recordLength) 0)
+  counts = on (validMachine K image && eqb (length schedule % recordLength) 0)
     where
-      on : (b : Bool) → Counts records (pick b (completedOf records image schedule 0 s) 0) (pick b (runFrom records image schedule 0 s) (ran s 0 7))
-      on true = from-counts records image schedule 0 s
+      on : (b : Bool) → Counts records (pick b (completedOf records K image schedule 0 s) 0) (pick b (runFrom records K image schedule 0 s) (ran s 0 7))
+      on true = from-counts records K image schedule 0 s
       on false = record { few = omega arith; all = λ z. absurd (omega (arith, z)) }
 
-  run-by : (b : Bool) → isImageLength (length image) ≡ b → length schedule % recordLength ≡ 0
-      → runOf image s schedule ≡ pick b (runFrom records image schedule 0 s) (ran s 0 7)
+  run-by : (b : Bool) → validMachine K image ≡ b → length schedule % recordLength ≡ 0
+      → runOf K image s schedule ≡ pick b (runFrom records K image schedule 0 s) (ran s 0 7)
   unfolding runOf
   run-by b e w = rw (e, eqb-yes w, and-true b)
 
   covered-by : (m : List ℕ) (b : Bool) → isMapLength (length m) ≡ b
-      → coveredMap image s schedule m ≡ pick b (mapOf (λ x. marked m x || reached image s schedule x)) m
+      → coveredMap K image s schedule m ≡ pick b (mapOf (λ x. marked m x || reached K image s schedule x)) m
   unfolding coveredMap
   covered-by m b e = rw e
 
-module _ (image : List ℕ) (s : State) (a b : List ℕ) (wa : length a % recordLength ≡ 0) (wb : length b % recordLength ≡ 0) where
+module _ (K : Configuration) (image : List ℕ) (s : State) (a b : List ℕ) (wa : length a % recordLength ≡ 0) (wb : length b % recordLength ≡ 0) where
   abbrev k : ℕ
   k = length a / recordLength
 
@@ -175,7 +176,7 @@ module _ (image : List ℕ) (s : State) (a b : List ℕ) (wa : length a % record
   both = a ++ b
 
   abbrev middle : State
-  middle = runOf image s a .state
+  middle = runOf K image s a .state
 
   lengths : length both % recordLength ≡ 0 × length both / recordLength ≡ k + n
   lengths = let e = length-append a b in (omega arith, omega arith)
@@ -195,83 +196,83 @@ module _ (image : List ℕ) (s : State) (a b : List ℕ) (wa : length a % record
   abbrev inTurn : Ran → Ran → Ran
   inTurn p q = pick (eqb (p .stop) 0) (ran (q .state) (p .steps + q .steps) (q .stop)) p
 
-  from-turns : let p = runFrom k image a 0 s in runFrom (k + n) image both 0 s ≡ inTurn p (runFrom n image b 0 (p .state))
+  from-turns : let p = runFrom k K image a 0 s in runFrom (k + n) K image both 0 s ≡ inTurn p (runFrom n K image b 0 (p .state))
   from-turns =
-      let p = runFrom k image a 0 s in
-      let q = runFrom n image b 0 (p .state) in
-      let c = from-counts k image a 0 s in
-      let i = run-steps k image a 0 s in
-      let j = run-steps n image b 0 (p .state) in
-      run-then image both a n k 0 0 s first-records
+      let p = runFrom k K image a 0 s in
+      let q = runFrom n K image b 0 (p .state) in
+      let c = from-counts k K image a 0 s in
+      let i = run-steps k K image a 0 s in
+      let j = run-steps n K image b 0 (p .state) in
+      run-then K image both a n k 0 0 s first-records
       ∙ pick-each (eqb (p .stop) 0) _ _ _ _
-      (λ e. run-same image both b n (0 + k) (p .state) (rw (zero-add k) next-records)
+      (λ e. run-same K image both b n (0 + k) (p .state) (rw (zero-add k) next-records)
       ∙ ap (λ (l : ℕ). ran (q .state) l (q .stop)) (omega (arith, i, j, c .all (eqb-true (p .stop) 0 e))))
       (λ _. ap (λ (l : ℕ). ran (p .state) l (p .stop)) (sym i))
 
-  turns : runOf image s both ≡ inTurn (runOf image s a) (runOf image (runOf image s a .state) b)
+  turns : runOf K image s both ≡ inTurn (runOf K image s a) (runOf K image (runOf K image s a .state) b)
   turns =
       ⊎-elim
-      (λ t. rw (run-by image s both true t (lengths .0), run-by image s a true t wa, run-by image (runFrom k image a 0 s .state) b true t wb, lengths .1) from-turns)
-      (λ f. rw (run-by image s both false f (lengths .0), run-by image s a false f wa)) (case-bool (isImageLength (length image)))
+      (λ t. rw (run-by K image s both true t (lengths .0), run-by K image s a true t wa, run-by K image (runFrom k K image a 0 s .state) b true t wb, lengths .1) from-turns)
+      (λ f. rw (run-by K image s both false f (lengths .0), run-by K image s a false f wa)) (case-bool (validMachine K image))
 
   -- where the run over the first is not refused, and where it is
-  pub run-in-turn : runOf image s a .stop ≡ 0
-      → let ra = runOf image s a in let rb = runOf image (ra .state) b in runOf image s (a ++ b) ≡ ran (rb .state) (ra .steps + rb .steps) (rb .stop)
+  pub run-in-turn : runOf K image s a .stop ≡ 0
+      → let ra = runOf K image s a in let rb = runOf K image (ra .state) b in runOf K image s (a ++ b) ≡ ran (rb .state) (ra .steps + rb .steps) (rb .stop)
   run-in-turn z = turns ∙ rw (eqb-yes z)
 
-  pub run-stopped : runOf image s a .stop ≢ 0 → runOf image s (a ++ b) ≡ runOf image s a
+  pub run-stopped : runOf K image s a .stop ≢ 0 → runOf K image s (a ++ b) ≡ runOf K image s a
   run-stopped z = turns ∙ rw (eqb-no z)
 
   -- what the first i steps of both reach
-  first-reached : (x i : ℕ) → i ≤ k → someBelow i (beginsAt image s both x) ≡ someBelow i (beginsAt image s a x)
+  first-reached : (x i : ℕ) → i ≤ k → someBelow i (beginsAt K image s both x) ≡ someBelow i (beginsAt K image s a x)
   unfolding stateBehind
   first-reached x i h =
-      some-same i (beginsAt image s both x) (beginsAt image s a x)
-      (λ j l. rw (zero-add j) at (begins-then image both a 0 s s refl k first-records x j (omega arith)))
+      some-same i (beginsAt K image s both x) (beginsAt K image s a x)
+      (λ j l. rw (zero-add j) at (begins-then K image both a 0 s s refl k first-records x j (omega arith)))
 
-  reached-stopped : runOf image s a .stop ≢ 0 → (x : ℕ) → reached image s (a ++ b) x ≡ reached image s a x
+  reached-stopped : runOf K image s a .stop ≢ 0 → (x : ℕ) → reached K image s (a ++ b) x ≡ reached K image s a x
   unfolding reached
   reached-stopped z x =
-      let e : completedSteps image s both ≡ completedSteps image s a =
-      sym (steps-completed image both s) ∙ ap (λ (r : Ran). r .steps) (run-stopped z) ∙ steps-completed image a s in
-      rw e (first-reached x (completedSteps image s a) (counts image s a .few))
+      let e : completedSteps K image s both ≡ completedSteps K image s a =
+      sym (steps-completed K image both s) ∙ ap (λ (r : Ran). r .steps) (run-stopped z) ∙ steps-completed K image a s in
+      rw e (first-reached x (completedSteps K image s a) (counts K image s a .few))
 
-  pub covered-stopped : runOf image s a .stop ≢ 0 → (m : List ℕ) → coveredMap image s (a ++ b) m ≡ coveredMap image s a m
+  pub covered-stopped : runOf K image s a .stop ≢ 0 → (m : List ℕ) → coveredMap K image s (a ++ b) m ≡ coveredMap K image s a m
   covered-stopped z m =
-      let e = same-map-of (λ x. marked m x || reached image s both x) (λ x. marked m x || reached image s a x)
+      let e = same-map-of (λ x. marked m x || reached K image s both x) (λ x. marked m x || reached K image s a x)
       (λ x _. ap (λ (t : Bool). marked m x || t) (reached-stopped z x)) in
-      covered-by image s both m (isMapLength (length m)) refl ∙ ap (λ (x : List ℕ). pick (isMapLength (length m)) x m) e
-      ∙ sym (covered-by image s a m (isMapLength (length m)) refl)
+      covered-by K image s both m (isMapLength (length m)) refl ∙ ap (λ (x : List ℕ). pick (isMapLength (length m)) x m) e
+      ∙ sym (covered-by K image s a m (isMapLength (length m)) refl)
 
-  module _ (z : runOf image s a .stop ≡ 0) where
-    all-first : completedSteps image s a ≡ k
-    all-first = counts image s a .all z
+  module _ (z : runOf K image s a .stop ≡ 0) where
+    all-first : completedSteps K image s a ≡ k
+    all-first = counts K image s a .all z
 
-    behind-first : stateBehind k image both 0 s ≡ middle
+    behind-first : stateBehind k K image both 0 s ≡ middle
     unfolding stateBehind
-    behind-first = (rw (zero-add k) at (behind-then image both a 0 s s refl k first-records)) ∙ sym (rw all-first at (run-state image a s))
+    behind-first = (rw (zero-add k) at (behind-then K image both a 0 s s refl k first-records)) ∙ sym (rw all-first at (run-state K image a s))
 
-    reached-in-turn : (x : ℕ) → reached image s (a ++ b) x ≡ (reached image s a x || reached image (runOf image s a .state) b x)
+    reached-in-turn : (x : ℕ) → reached K image s (a ++ b) x ≡ (reached K image s a x || reached K image (runOf K image s a .state) b x)
     unfolding reached
     reached-in-turn x =
-        let i = completedSteps image middle b in
-        let d = counts image middle b .few in
-        let e : completedSteps image s both ≡ k + i =
-        sym (steps-completed image both s) ∙ ap (λ (r : Ran). r .steps) (run-in-turn z)
-        ∙ ap₂ (λ (p q : ℕ). p + q) (steps-completed image a s ∙ all-first) (steps-completed image b middle) in
+        let i = completedSteps K image middle b in
+        let d = counts K image middle b .few in
+        let e : completedSteps K image s both ≡ k + i =
+        sym (steps-completed K image both s) ∙ ap (λ (r : Ran). r .steps) (run-in-turn z)
+        ∙ ap₂ (λ (p q : ℕ). p + q) (steps-completed K image a s ∙ all-first) (steps-completed K image b middle) in
         rw (e, all-first)
-        (some-parts k i (beginsAt image s both x)
+        (some-parts k i (beginsAt K image s both x)
         ∙ ap₂ (λ (p q : Bool). p || q)
-        (some-same i _ (beginsAt image middle b x) (λ j l. begins-then image both b k s middle behind-first n next-records x j (omega arith)))
+        (some-same i _ (beginsAt K image middle b x) (λ j l. begins-then K image both b k s middle behind-first n next-records x j (omega arith)))
         (first-reached x k (omega arith))
-        ∙ or-comm (someBelow i (beginsAt image middle b x)) (someBelow k (beginsAt image s a x)))
+        ∙ or-comm (someBelow i (beginsAt K image middle b x)) (someBelow k (beginsAt K image s a x)))
 
     pub covered-in-turn : (m : List ℕ)
-        → coveredMap image s (a ++ b) m ≡ coveredMap image (runOf image s a .state) b (coveredMap image s a m)
+        → coveredMap K image s (a ++ b) m ≡ coveredMap K image (runOf K image s a .state) b (coveredMap K image s a m)
     covered-in-turn m =
-        let f : ℕ → Bool = λ x. marked m x || reached image s a x in
+        let f : ℕ → Bool = λ x. marked m x || reached K image s a x in
         ⊎-elim
-        (λ t. rw (covered-by image s both m true t, covered-by image s a m true t, covered-by image middle b (mapOf f) true (eqb-yes (length-map-of f)))
+        (λ t. rw (covered-by K image s both m true t, covered-by K image s a m true t, covered-by K image middle b (mapOf f) true (eqb-yes (length-map-of f)))
         (same-map-of _ _ (λ x l. rw (marked-map-of f x l, reached-in-turn x) (sym (or-assoc (marked m x) _ _)))))
-        (λ e. rw (covered-by image s both m false e, covered-by image s a m false e, covered-by image middle b m false e))
+        (λ e. rw (covered-by K image s both m false e, covered-by K image s a m false e, covered-by K image middle b m false e))
         (case-bool (isMapLength (length m)))

@@ -13,18 +13,19 @@ use Rattle.base.specs.Choice.{pick}
 use Rattle.base.specs.ChoiceLaws.{pick-has}
 use Rattle.base.specs.Outcome.{Outcome}
 use Rattle.base.specs.Outcome.Outcome.{value, refused}
-use Rattle.base.specs.Lengths.{isImageLength, recordLength}
+use Rattle.base.specs.Lengths.{recordLength}
 use Rattle.isa.specs.declared.FlagSet.{FlagSet}
 use Rattle.isa.specs.declared.Instruction.{Instruction}
 use Rattle.isa.specs.Map.{cyclesOf}
 use Rattle.decode.specs.Decode.{decodeAt}
+use Rattle.semantics.specs.declared.Configuration.{Configuration}
 use Rattle.semantics.specs.declared.Mode.{Mode}
 use Rattle.semantics.specs.declared.Mode.the-variants.{Running, Idle, Stopped}
 use Rattle.semantics.specs.declared.State.{State}
 use Rattle.semantics.specs.declared.Stepped.{Stepped}
 use Rattle.semantics.specs.declared.Ran.{Ran}
 use Rattle.semantics.specs.Execute.{Executed}
-use Rattle.semantics.specs.Step.{Acted, entryDue, finishOf, entryCost, afterDecode, instructionAct, modeAct, actAfterRequests, requested, actedOf, settled, stepOf}
+use Rattle.semantics.specs.Step.{Acted, entryDue, finishOf, entryCost, afterDecode, instructionAct, modeAct, actAfterRequests, requested, actedOf, settled, validMachine, stepOf}
 use Rattle.semantics.specs.Run.{ran, recordAt, runFrom, runOf}
 use Rattle.semantics.specs.Refusals.{step-stops}
 
@@ -39,40 +40,40 @@ modeCost Running image pc = decodedCost (decodeAt image (pc .0)) (getD image (pc
 modeCost Idle image pc = 0
 modeCost Stopped image pc = 0
 
--- the cycles of a step, from the state before it
-unfoldable pub costOf : List ℕ → State → List ℕ → ℕ
-costOf image s rec = pick (entryDue (requested s rec) (s .mode)) entryCost (modeCost (s .mode) image (s .pc))
+-- the cycles of a step, from the state before it; those of an entry come from the configuration (request 03)
+unfoldable pub costOf : Configuration → List ℕ → State → List ℕ → ℕ
+costOf K image s rec = pick (entryDue (requested s rec) (s .mode)) (entryCost K) (modeCost (s .mode) image (s .pc))
 
 -- how many steps the next k records complete, from record i on: those before the first that is refused
-unfoldable pub completedOf : ℕ → List ℕ → List ℕ → ℕ → State → ℕ
-completedOf zero image schedule i s = 0
-completedOf (suc k) image schedule i s =
-    let r = stepOf image s (recordAt schedule i) in
-    elim (eqb (r .stop) 0) [ true ↦ suc (completedOf k image schedule (i + 1) (r .state)) | false ↦ 0 ]
+unfoldable pub completedOf : ℕ → Configuration → List ℕ → List ℕ → ℕ → State → ℕ
+completedOf zero K image schedule i s = 0
+completedOf (suc k) K image schedule i s =
+    let r = stepOf K image s (recordAt schedule i) in
+    elim (eqb (r .stop) 0) [ true ↦ suc (completedOf k K image schedule (i + 1) (r .state)) | false ↦ 0 ]
 
 -- what those steps cost
-unfoldable pub costsOf : ℕ → List ℕ → List ℕ → ℕ → State → ℕ
-costsOf zero image schedule i s = 0
-costsOf (suc k) image schedule i s =
-    let r = stepOf image s (recordAt schedule i) in
-    elim (eqb (r .stop) 0) [ true ↦ costOf image s (recordAt schedule i) + costsOf k image schedule (i + 1) (r .state) | false ↦ 0 ]
+unfoldable pub costsOf : ℕ → Configuration → List ℕ → List ℕ → ℕ → State → ℕ
+costsOf zero K image schedule i s = 0
+costsOf (suc k) K image schedule i s =
+    let r = stepOf K image s (recordAt schedule i) in
+    elim (eqb (r .stop) 0) [ true ↦ costOf K image s (recordAt schedule i) + costsOf k K image schedule (i + 1) (r .state) | false ↦ 0 ]
 
 -- the state behind the next k records from record i on, a step each
-unfoldable pub stateBehind : ℕ → List ℕ → List ℕ → ℕ → State → State
-stateBehind zero image schedule i s = s
-stateBehind (suc k) image schedule i s = stateBehind k image schedule (i + 1) (stepOf image s (recordAt schedule i) .state)
+unfoldable pub stateBehind : ℕ → Configuration → List ℕ → List ℕ → ℕ → State → State
+stateBehind zero K image schedule i s = s
+stateBehind (suc k) K image schedule i s = stateBehind k K image schedule (i + 1) (stepOf K image s (recordAt schedule i) .state)
 
--- how many steps a run completes, and what they cost: none where a length is wrong
-unfoldable pub completedSteps : List ℕ → State → List ℕ → ℕ
-completedSteps image s schedule =
-    pick (isImageLength (length image) && eqb (length schedule % recordLength) 0)
-    (completedOf (length schedule / recordLength) image schedule 0 s)
+-- how many steps a run completes, and what they cost: none where the configuration or a length is wrong
+unfoldable pub completedSteps : Configuration → List ℕ → State → List ℕ → ℕ
+completedSteps K image s schedule =
+    pick (validMachine K image && eqb (length schedule % recordLength) 0)
+    (completedOf (length schedule / recordLength) K image schedule 0 s)
     0
 
-unfoldable pub totalCost : List ℕ → State → List ℕ → ℕ
-totalCost image s schedule =
-    pick (isImageLength (length image) && eqb (length schedule % recordLength) 0)
-    (costsOf (length schedule / recordLength) image schedule 0 s)
+unfoldable pub totalCost : Configuration → List ℕ → State → List ℕ → ℕ
+totalCost K image s schedule =
+    pick (validMachine K image && eqb (length schedule % recordLength) 0)
+    (costsOf (length schedule / recordLength) K image schedule 0 s)
     0
 
 -- a step that is completed adds its cost to the cycle total; a step that is refused leaves the state before it
@@ -110,37 +111,37 @@ module _ (s : State) (small : s .cycles < 4294967296) where
   mode-accounts Idle image regs rec = record { completed = λ _. refl; refused = λ h. absurd (h refl) }
   mode-accounts Stopped image regs rec = record { completed = λ _. refl; refused = λ h. absurd (h refl) }
 
-  due-accounts : (b : Bool) (image regs rec : List ℕ)
-      → ActAccounts (pick b entryCost (modeCost (s .mode) image (s .pc))) (actAfterRequests b image s regs rec)
+  due-accounts : (b : Bool) (K : Configuration) (image regs rec : List ℕ)
+      → ActAccounts (pick b (entryCost K) (modeCost (s .mode) image (s .pc))) (actAfterRequests b K image s regs rec)
   unfolding actAfterRequests
-  due-accounts true image regs rec = finish-accounts _ false entryCost
-  due-accounts false image regs rec = mode-accounts (s .mode) image regs rec
+  due-accounts true K image regs rec = finish-accounts _ false (entryCost K)
+  due-accounts false K image regs rec = mode-accounts (s .mode) image regs rec
 
   -- what settles keeps the cycle total and the number
   settled-accounts : (cost : ℕ) (a : Acted) → ActAccounts cost a → Accounts s cost (settled s a .state) (settled s a .stop)
   unfolding settled
   settled-accounts cost a h = h
 
-  pub step-accounts : (image rec : List ℕ) → Accounts s (costOf image s rec) (stepOf image s rec .state) (stepOf image s rec .stop)
+  pub step-accounts : (K : Configuration) (image rec : List ℕ) → Accounts s (costOf K image s rec) (stepOf K image s rec .state) (stepOf K image s rec .stop)
   unfolding stepOf actedOf costOf
-  step-accounts image rec =
-      pick-has (λ (r : Stepped). Accounts s (costOf image s rec) (r .state) (r .stop)) (isImageLength (length image) && eqb (length rec) recordLength) _ _
-      (λ _. settled-accounts _ _ (due-accounts (entryDue (requested s rec) (s .mode)) image (requested s rec) rec))
+  step-accounts K image rec =
+      pick-has (λ (r : Stepped). Accounts s (costOf K image s rec) (r .state) (r .stop)) (validMachine K image && eqb (length rec) recordLength) _ _
+      (λ _. settled-accounts _ _ (due-accounts (entryDue (requested s rec) (s .mode)) K image (requested s rec) rec))
       (λ _. refuse-accounts 7 _ (λ h. absurd (omega (arith, h))))
 
 -- the steps of a run are the completed ones
-pub run-steps : (k : ℕ) (image schedule : List ℕ) (i : ℕ) (s : State)
-    → runFrom k image schedule i s .steps ≡ i + completedOf k image schedule i s
+pub run-steps : (k : ℕ) (K : Configuration) (image schedule : List ℕ) (i : ℕ) (s : State)
+    → runFrom k K image schedule i s .steps ≡ i + completedOf k K image schedule i s
 unfolding runFrom completedOf
-run-steps zero image schedule i s = omega arith
-run-steps (suc k) image schedule i s = on (eqb (r .stop) 0) (run-steps k image schedule (i + 1) (r .state))
+run-steps zero K image schedule i s = omega arith
+run-steps (suc k) K image schedule i s = on (eqb (r .stop) 0) (run-steps k K image schedule (i + 1) (r .state))
   where
     r : Stepped
-    r = stepOf image s (recordAt schedule i)
+    r = stepOf K image s (recordAt schedule i)
 
-    on : (b : Bool) → runFrom k image schedule (i + 1) (r .state) .steps ≡ i + 1 + completedOf k image schedule (i + 1) (r .state)
-        → (elim b as (λ _. Ran) [ true ↦ runFrom k image schedule (i + 1) (r .state) | false ↦ ran (r .state) i (r .stop) ]) .steps
-        ≡ i + (elim b as (λ _. ℕ) [ true ↦ suc (completedOf k image schedule (i + 1) (r .state)) | false ↦ 0 ])
+    on : (b : Bool) → runFrom k K image schedule (i + 1) (r .state) .steps ≡ i + 1 + completedOf k K image schedule (i + 1) (r .state)
+        → (elim b as (λ _. Ran) [ true ↦ runFrom k K image schedule (i + 1) (r .state) | false ↦ ran (r .state) i (r .stop) ]) .steps
+        ≡ i + (elim b as (λ _. ℕ) [ true ↦ suc (completedOf k K image schedule (i + 1) (r .state)) | false ↦ 0 ])
     on true rest = omega arith
     on false rest = omega arith
 
@@ -148,70 +149,70 @@ sums : (a b c d : ℕ) → d ≡ (a + b) % 4294967296 → (d + c) % 4294967296 �
 sums a b c d e = omega arith
 
 -- the cycle total of a run is the start's plus the completed steps' costs
-pub run-cycles : (k : ℕ) (image schedule : List ℕ) (i : ℕ) (s : State) → s .cycles < 4294967296
-    → runFrom k image schedule i s .state .cycles ≡ (s .cycles + costsOf k image schedule i s) % 4294967296
+pub run-cycles : (k : ℕ) (K : Configuration) (image schedule : List ℕ) (i : ℕ) (s : State) → s .cycles < 4294967296
+    → runFrom k K image schedule i s .state .cycles ≡ (s .cycles + costsOf k K image schedule i s) % 4294967296
 unfolding runFrom costsOf
-run-cycles zero image schedule i s small = same-total s small
-run-cycles (suc k) image schedule i s small = on (eqb (r .stop) 0) refl (run-cycles k image schedule (i + 1) (r .state))
+run-cycles zero K image schedule i s small = same-total s small
+run-cycles (suc k) K image schedule i s small = on (eqb (r .stop) 0) refl (run-cycles k K image schedule (i + 1) (r .state))
   where
     r : Stepped
-    r = stepOf image s (recordAt schedule i)
+    r = stepOf K image s (recordAt schedule i)
 
     cost : ℕ
-    cost = costOf image s (recordAt schedule i)
+    cost = costOf K image s (recordAt schedule i)
 
     on : (b : Bool) → eqb (r .stop) 0 ≡ b
         → (r .state .cycles < 4294967296
-        → runFrom k image schedule (i + 1) (r .state) .state .cycles ≡ (r .state .cycles + costsOf k image schedule (i + 1) (r .state)) % 4294967296)
-        → (elim b as (λ _. Ran) [ true ↦ runFrom k image schedule (i + 1) (r .state) | false ↦ ran (r .state) i (r .stop) ]) .state .cycles
-        ≡ (s .cycles + (elim b as (λ _. ℕ) [ true ↦ cost + costsOf k image schedule (i + 1) (r .state) | false ↦ 0 ])) % 4294967296
+        → runFrom k K image schedule (i + 1) (r .state) .state .cycles ≡ (r .state .cycles + costsOf k K image schedule (i + 1) (r .state)) % 4294967296)
+        → (elim b as (λ _. Ran) [ true ↦ runFrom k K image schedule (i + 1) (r .state) | false ↦ ran (r .state) i (r .stop) ]) .state .cycles
+        ≡ (s .cycles + (elim b as (λ _. ℕ) [ true ↦ cost + costsOf k K image schedule (i + 1) (r .state) | false ↦ 0 ])) % 4294967296
     on true h rest =
-        let e = step-accounts s small image (recordAt schedule i) .completed (eqb-true (r .stop) 0 h) in
+        let e = step-accounts s small K image (recordAt schedule i) .completed (eqb-true (r .stop) 0 h) in
         let b : r .state .cycles < 4294967296 = omega (arith, e) in
         rest b ∙ sums (s .cycles) cost _ (r .state .cycles) e
-    on false h rest = ap (λ (x : State). x .cycles) (step-accounts s small image (recordAt schedule i) .refused (eqb-false (r .stop) 0 h)) ∙ same-total s small
+    on false h rest = ap (λ (x : State). x .cycles) (step-accounts s small K image (recordAt schedule i) .refused (eqb-false (r .stop) 0 h)) ∙ same-total s small
 
 -- a run returns the state behind its completed steps, which is the state before the step that was refused
-run-from-state : (k : ℕ) (image schedule : List ℕ) (i : ℕ) (s : State)
-    → runFrom k image schedule i s .state ≡ stateBehind (completedOf k image schedule i s) image schedule i s
+run-from-state : (k : ℕ) (K : Configuration) (image schedule : List ℕ) (i : ℕ) (s : State)
+    → runFrom k K image schedule i s .state ≡ stateBehind (completedOf k K image schedule i s) K image schedule i s
 unfolding runFrom completedOf stateBehind
-run-from-state zero image schedule i s = refl
-run-from-state (suc k) image schedule i s = on (eqb (r .stop) 0) refl (run-from-state k image schedule (i + 1) (r .state))
+run-from-state zero K image schedule i s = refl
+run-from-state (suc k) K image schedule i s = on (eqb (r .stop) 0) refl (run-from-state k K image schedule (i + 1) (r .state))
   where
     r : Stepped
-    r = stepOf image s (recordAt schedule i)
+    r = stepOf K image s (recordAt schedule i)
 
     on : (b : Bool) → eqb (r .stop) 0 ≡ b
-        → runFrom k image schedule (i + 1) (r .state) .state
-        ≡ stateBehind (completedOf k image schedule (i + 1) (r .state)) image schedule (i + 1) (r .state)
-        → (elim b as (λ _. Ran) [ true ↦ runFrom k image schedule (i + 1) (r .state) | false ↦ ran (r .state) i (r .stop) ]) .state
-        ≡ stateBehind (elim b as (λ _. ℕ) [ true ↦ suc (completedOf k image schedule (i + 1) (r .state)) | false ↦ 0 ]) image schedule i s
+        → runFrom k K image schedule (i + 1) (r .state) .state
+        ≡ stateBehind (completedOf k K image schedule (i + 1) (r .state)) K image schedule (i + 1) (r .state)
+        → (elim b as (λ _. Ran) [ true ↦ runFrom k K image schedule (i + 1) (r .state) | false ↦ ran (r .state) i (r .stop) ]) .state
+        ≡ stateBehind (elim b as (λ _. ℕ) [ true ↦ suc (completedOf k K image schedule (i + 1) (r .state)) | false ↦ 0 ]) K image schedule i s
     on true h rest = rest
-    on false h rest = step-stops s image (recordAt schedule i) .unchanged (eqb-false (r .stop) 0 h)
+    on false h rest = step-stops s K image (recordAt schedule i) .unchanged (eqb-false (r .stop) 0 h)
 
-pub run-state : (image schedule : List ℕ) (s : State)
-    → runOf image s schedule .state ≡ stateBehind (completedSteps image s schedule) image schedule 0 s
+pub run-state : (K : Configuration) (image schedule : List ℕ) (s : State)
+    → runOf K image s schedule .state ≡ stateBehind (completedSteps K image s schedule) K image schedule 0 s
 unfolding runOf completedSteps stateBehind
-run-state image schedule s = on (isImageLength (length image) && eqb (length schedule % recordLength) 0)
+run-state K image schedule s = on (validMachine K image && eqb (length schedule % recordLength) 0)
   where
     n : ℕ
     n = length schedule / recordLength
 
     on : (b : Bool)
-        → (pick b (runFrom n image schedule 0 s) (ran s 0 7)) .state ≡ stateBehind (pick b (completedOf n image schedule 0 s) 0) image schedule 0 s
-    on true = run-from-state n image schedule 0 s
+        → (pick b (runFrom n K image schedule 0 s) (ran s 0 7)) .state ≡ stateBehind (pick b (completedOf n K image schedule 0 s) 0) K image schedule 0 s
+    on true = run-from-state n K image schedule 0 s
     on false = refl
 
 -- a run answers the number of its completed steps
-pub steps-completed : (image schedule : List ℕ) (s : State) → runOf image s schedule .steps ≡ completedSteps image s schedule
+pub steps-completed : (K : Configuration) (image schedule : List ℕ) (s : State) → runOf K image s schedule .steps ≡ completedSteps K image s schedule
 unfolding runOf completedSteps
-steps-completed image schedule s = on (isImageLength (length image) && eqb (length schedule % recordLength) 0)
+steps-completed K image schedule s = on (validMachine K image && eqb (length schedule % recordLength) 0)
   where
     n : ℕ
     n = length schedule / recordLength
 
-    on : (b : Bool) → (pick b (runFrom n image schedule 0 s) (ran s 0 7)) .steps ≡ pick b (completedOf n image schedule 0 s) 0
-    on true = omega (arith, run-steps n image schedule 0 s)
+    on : (b : Bool) → (pick b (runFrom n K image schedule 0 s) (ran s 0 7)) .steps ≡ pick b (completedOf n K image schedule 0 s) 0
+    on true = omega (arith, run-steps n K image schedule 0 s)
     on false = refl
 
 -- a run answers the number of its completed steps, and the start's cycle total with their costs
@@ -219,21 +220,21 @@ pub record Counted (count cost : ℕ) (s : State) (r : Ran) : Type 0 where
   pub steps : r .steps ≡ count
   pub cycles : r .state .cycles ≡ (s .cycles + cost) % 4294967296
 
-pub run-counted : (image schedule : List ℕ) (s : State) → s .cycles < 4294967296
-    → Counted (completedSteps image s schedule) (totalCost image s schedule) s (runOf image s schedule)
+pub run-counted : (K : Configuration) (image schedule : List ℕ) (s : State) → s .cycles < 4294967296
+    → Counted (completedSteps K image s schedule) (totalCost K image s schedule) s (runOf K image s schedule)
 unfolding runOf totalCost
-run-counted image schedule s small =
-    record { steps = steps-completed image schedule s; cycles = on (isImageLength (length image) && eqb (length schedule % recordLength) 0) }
+run-counted K image schedule s small =
+    record { steps = steps-completed K image schedule s; cycles = on (validMachine K image && eqb (length schedule % recordLength) 0) }
   where
     n : ℕ
     n = length schedule / recordLength
 
     on : (b : Bool)
-        → (pick b (runFrom n image schedule 0 s) (ran s 0 7)) .state .cycles ≡ (s .cycles + pick b (costsOf n image schedule 0 s) 0) % 4294967296
-    on true = run-cycles n image schedule 0 s small
+        → (pick b (runFrom n K image schedule 0 s) (ran s 0 7)) .state .cycles ≡ (s .cycles + pick b (costsOf n K image schedule 0 s) 0) % 4294967296
+    on true = run-cycles n K image schedule 0 s small
     on false = same-total s small
 
 -- the same of what is equal to the run
-pub counts-too : (image schedule : List ℕ) (s : State) (r : Ran) → s .cycles < 4294967296 → r ≡ runOf image s schedule
-    → (r ≡ runOf image s schedule) × Counted (completedSteps image s schedule) (totalCost image s schedule) s r
-counts-too image schedule s r small e = (e, rw e (run-counted image schedule s small))
+pub counts-too : (K : Configuration) (image schedule : List ℕ) (s : State) (r : Ran) → s .cycles < 4294967296 → r ≡ runOf K image s schedule
+    → (r ≡ runOf K image s schedule) × Counted (completedSteps K image s schedule) (totalCost K image s schedule) s r
+counts-too K image schedule s r small e = (e, rw e (run-counted K image schedule s small))

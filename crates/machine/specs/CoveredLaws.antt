@@ -12,10 +12,11 @@ use borrow.Author.Tests.{eqb-true}
 use Rattle.base.specs.Choice.{pick, from, count}
 use Rattle.base.specs.ChoiceLaws.{pick-has}
 use Rattle.base.specs.Formula.{eqb-yes, case-bool, same?, le?}
-use Rattle.base.specs.Lengths.{romLength, isImageLength, recordLength}
+use Rattle.base.specs.Lengths.{romLength, isEntryCost, recordLength}
+use Rattle.semantics.specs.declared.Configuration.{Configuration}
 use Rattle.semantics.specs.declared.State.{State}
 use Rattle.semantics.specs.declared.Ran.{Ran}
-use Rattle.semantics.specs.Step.{actedOf}
+use Rattle.semantics.specs.Step.{entryCost, validMachine, actedOf}
 use Rattle.semantics.specs.Refusals.{StepNumber, run-number, run-seven}
 use Rattle.semantics.specs.Run.{ran, recordAt, runOf}
 use Rattle.coverage.specs.Map.{mapWords, isMapLength, marked, mapOf, emptyMap, joined, markedCount}
@@ -26,11 +27,11 @@ use Rattle.machine.specs.Reached.{beginsAt, someBelow, reached, coveredR
 use Rattle.machine.specs.Retired.{Completes, retired-completes, completes-retired, completes-place}
 
 -- an address at which an instruction began that a run completed: the state before that step was there
-pub record Reaches (image : List ℕ) (s : State) (schedule : List ℕ) (a : ℕ) : Type 0 where
+pub record Reaches (K : Configuration) (image : List ℕ) (s : State) (schedule : List ℕ) (a : ℕ) : Type 0 where
   pub step : ℕ
-  pub completed : step < completedSteps image s schedule
-  pub instruction : Completes image (stateBehind step image schedule 0 s) (recordAt schedule step)
-  pub address : stateBehind step image schedule 0 s .pc .0 ≡ a
+  pub completed : step < completedSteps K image s schedule
+  pub instruction : Completes K image (stateBehind step K image schedule 0 s) (recordAt schedule step)
+  pub address : stateBehind step K image schedule 0 s .pc .0 ≡ a
 
 -- a test that holds somewhere below n
 has-some : (n : ℕ) (f : ℕ → Bool) (i : ℕ) → i < n → f i ≡ true → someBelow n f ≡ true
@@ -48,68 +49,69 @@ some-has (suc n) f h =
     let l = r .1 in
     (r .0, omega (arith, l), r .2)) (case-bool (f n))
 
-module _ (image : List ℕ) (s : State) (schedule : List ℕ) where
+module _ (K : Configuration) (image : List ℕ) (s : State) (schedule : List ℕ) where
   -- what is reached, in both forms
-  reaches : (a : ℕ) → reached image s schedule a ≡ true → Reaches image s schedule a
+  reaches : (a : ℕ) → reached K image s schedule a ≡ true → Reaches K image s schedule a
   unfolding reached beginsAt
   reaches a h =
-      let r = some-has (completedSteps image s schedule) (beginsAt image s schedule a) h in
-      let q = and-eq-true-iff (actedOf image (stateBehind (r .0) image schedule 0 s) (recordAt schedule (r .0)) .retired) _ .0 (r .2) in
+      let r = some-has (completedSteps K image s schedule) (beginsAt K image s schedule a) h in
+      let q = and-eq-true-iff (actedOf K image (stateBehind (r .0) K image schedule 0 s) (recordAt schedule (r .0)) .retired) _ .0 (r .2) in
       record {
         step = r .0;
         completed = r .1;
-        instruction = retired-completes image (stateBehind (r .0) image schedule 0 s) (recordAt schedule (r .0)) (q .0);
-        address = eqb-true (stateBehind (r .0) image schedule 0 s .pc .0) a (q .1);
+        instruction = retired-completes K image (stateBehind (r .0) K image schedule 0 s) (recordAt schedule (r .0)) (q .0);
+        address = eqb-true (stateBehind (r .0) K image schedule 0 s .pc .0) a (q .1);
       }
 
-  reached-where : (a : ℕ) → Reaches image s schedule a → reached image s schedule a ≡ true
+  reached-where : (a : ℕ) → Reaches K image s schedule a → reached K image s schedule a ≡ true
   unfolding reached beginsAt
   reached-where a r =
-      has-some (completedSteps image s schedule) (beginsAt image s schedule a) (r .step) (r .completed)
-      (rw (completes-retired image (stateBehind (r .step) image schedule 0 s) (recordAt schedule (r .step)) (r .instruction), eqb-yes (r .address)))
+      has-some (completedSteps K image s schedule) (beginsAt K image s schedule a) (r .step) (r .completed)
+      (rw (completes-retired K image (stateBehind (r .step) K image schedule 0 s) (recordAt schedule (r .step)) (r .instruction), eqb-yes (r .address)))
 
   -- an address that is reached is one of ROM
-  reached-in-rom : (a : ℕ) → Reaches image s schedule a → a < romLength
+  reached-in-rom : (a : ℕ) → Reaches K image s schedule a → a < romLength
   unfolding completedSteps
   reached-in-rom a r =
       let e = r .address in
-      let l = completes-place image (stateBehind (r .step) image schedule 0 s) (recordAt schedule (r .step)) (r .instruction) in
-      pick-has (λ (n : ℕ). r .step < n → a < romLength) (isImageLength (length image) && eqb (length schedule % recordLength) 0) _ 0
+      let l = completes-place K image (stateBehind (r .step) K image schedule 0 s) (recordAt schedule (r .step)) (r .instruction) in
+      pick-has (λ (n : ℕ). r .step < n → a < romLength) (validMachine K image && eqb (length schedule % recordLength) 0) _ 0
       (λ h _.
-      let size = eqb-true (length image) romLength (and-eq-true-iff (isImageLength (length image)) _ .0 h .0) in
+      let valid = and-eq-true-iff (validMachine K image) _ .0 h .0 in
+      let size = eqb-true (length image) romLength (and-eq-true-iff (isEntryCost (entryCost K)) _ .0 valid .1) in
       omega (arith, e, l, size)) (λ _ f. absurd (omega (arith, f))) (r .completed)
 
   module _ (m : List ℕ) where
-    pub covered-length : length (coveredMap image s schedule m) ≡ length m
+    pub covered-length : length (coveredMap K image s schedule m) ≡ length m
     unfolding coveredMap
     covered-length =
         pick-has (λ (x : List ℕ). length x ≡ length m) (isMapLength (length m)) _ m (λ h. length-map-of _ ∙ sym (eqb-true (length m) mapWords h)) (λ _. refl)
 
     module _ (size : length m ≡ mapWords) where
-      covered-marked : (a : ℕ) → a < romLength → marked (coveredMap image s schedule m) a ≡ (marked m a || reached image s schedule a)
+      covered-marked : (a : ℕ) → a < romLength → marked (coveredMap K image s schedule m) a ≡ (marked m a || reached K image s schedule a)
       unfolding coveredMap
-      covered-marked a h = rw (eqb-yes size) (marked-map-of (λ a. marked m a || reached image s schedule a) a h)
+      covered-marked a h = rw (eqb-yes size) (marked-map-of (λ a. marked m a || reached K image s schedule a) a h)
 
-      covered-words : Words (coveredMap image s schedule m)
+      covered-words : Words (coveredMap K image s schedule m)
       unfolding coveredMap
-      covered-words = rw (eqb-yes size) (words-map-of (λ a. marked m a || reached image s schedule a))
+      covered-words = rw (eqb-yes size) (words-map-of (λ a. marked m a || reached K image s schedule a))
 
       -- a mark is an address of ROM
       mark-in-rom : (n : List ℕ) → length n ≡ mapWords → (a : ℕ) → marked n a ≡ true → a < romLength
       mark-in-rom n e a h = ⊎-elim (λ (l : romLength ≤ a). absurd (false≢true (sym (marked-past n a e l) ∙ h))) (λ (l : a < romLength). l) (le? romLength a)
 
-      pub mark-stays : (a : ℕ) → marked m a ≡ true → marked (coveredMap image s schedule m) a ≡ true
-      mark-stays a h = covered-marked a (mark-in-rom m size a h) ∙ ap (λ (t : Bool). t || reached image s schedule a) h
+      pub mark-stays : (a : ℕ) → marked m a ≡ true → marked (coveredMap K image s schedule m) a ≡ true
+      mark-stays a h = covered-marked a (mark-in-rom m size a h) ∙ ap (λ (t : Bool). t || reached K image s schedule a) h
 
-      pub completed-marked : (a : ℕ) → Reaches image s schedule a → marked (coveredMap image s schedule m) a ≡ true
+      pub completed-marked : (a : ℕ) → Reaches K image s schedule a → marked (coveredMap K image s schedule m) a ≡ true
       completed-marked a r =
           covered-marked a (reached-in-rom a r) ∙ ap (λ (t : Bool). marked m a || t) (reached-where a r) ∙ or-true (marked m a)
 
-      pub no-other-mark : (a : ℕ) → marked (coveredMap image s schedule m) a ≡ true → (marked m a ≡ true) ⊎ Reaches image s schedule a
+      pub no-other-mark : (a : ℕ) → marked (coveredMap K image s schedule m) a ≡ true → (marked m a ≡ true) ⊎ Reaches K image s schedule a
       no-other-mark a h =
-          let l = mark-in-rom (coveredMap image s schedule m) (covered-length ∙ size) a h in
+          let l = mark-in-rom (coveredMap K image s schedule m) (covered-length ∙ size) a h in
           ⊎-elim (λ (e : marked m a ≡ true). inl e)
-          (λ (e : marked m a ≡ false). inr (reaches a (sym (ap (λ (t : Bool). t || reached image s schedule a) e) ∙ sym (covered-marked a l) ∙ h)))
+          (λ (e : marked m a ≡ false). inr (reaches a (sym (ap (λ (t : Bool). t || reached K image s schedule a) e) ∙ sym (covered-marked a l) ∙ h)))
           (case-bool (marked m a))
 
 -- the empty map has 64 words
@@ -117,75 +119,75 @@ empty-length : length emptyMap ≡ mapWords
 unfolding emptyMap
 empty-length = refl
 
--- two runs with one map, of any image and from any state each, join what each marks in an empty map
-pub covered-joins : (image image′ : List ℕ) (s s′ : State) (a b m : List ℕ) → length m ≡ mapWords → Words m
-    → coveredMap image′ s′ b (coveredMap image s a m) ≡ joined (joined m (coveredMap image s a emptyMap)) (coveredMap image′ s′ b emptyMap)
-covered-joins image image′ s s′ a b m size small =
-    same-marks second (joined (joined m one) other) (covered-length image′ s′ b first ∙ full) (length-joined (joined m one) other)
-    (covered-words image′ s′ b first full)
-    (words-joined (joined m one) other (words-joined m one small (covered-words image s a emptyMap empty-length)) (covered-words image′ s′ b emptyMap empty-length))
+-- two runs with one map, of any configuration and image and from any state each, join what each marks in an empty map
+pub covered-joins : (K K′ : Configuration) (image image′ : List ℕ) (s s′ : State) (a b m : List ℕ) → length m ≡ mapWords → Words m
+    → coveredMap K′ image′ s′ b (coveredMap K image s a m) ≡ joined (joined m (coveredMap K image s a emptyMap)) (coveredMap K′ image′ s′ b emptyMap)
+covered-joins K K′ image image′ s s′ a b m size small =
+    same-marks second (joined (joined m one) other) (covered-length K′ image′ s′ b first ∙ full) (length-joined (joined m one) other)
+    (covered-words K′ image′ s′ b first full)
+    (words-joined (joined m one) other (words-joined m one small (covered-words K image s a emptyMap empty-length)) (covered-words K′ image′ s′ b emptyMap empty-length))
     (λ x h.
-    covered-marked image′ s′ b first full x h
-    ∙ ap₂ (λ (t u : Bool). t || u) (covered-marked image s a m size x h ∙ ap (λ (t : Bool). marked m x || t) (alone image s a x h)
-    ∙ sym (marked-joined m one x h)) (alone image′ s′ b x h)
+    covered-marked K′ image′ s′ b first full x h
+    ∙ ap₂ (λ (t u : Bool). t || u) (covered-marked K image s a m size x h ∙ ap (λ (t : Bool). marked m x || t) (alone K image s a x h)
+    ∙ sym (marked-joined m one x h)) (alone K′ image′ s′ b x h)
     ∙ sym (marked-joined (joined m one) other x h))
   where
     first : List ℕ
-    first = coveredMap image s a m
+    first = coveredMap K image s a m
 
     second : List ℕ
-    second = coveredMap image′ s′ b first
+    second = coveredMap K′ image′ s′ b first
 
     one : List ℕ
-    one = coveredMap image s a emptyMap
+    one = coveredMap K image s a emptyMap
 
     other : List ℕ
-    other = coveredMap image′ s′ b emptyMap
+    other = coveredMap K′ image′ s′ b emptyMap
 
     full : length first ≡ mapWords
-    full = covered-length image s a m ∙ size
+    full = covered-length K image s a m ∙ size
 
-    alone : (image : List ℕ) (s : State) (a : List ℕ) (x : ℕ) → x < romLength → reached image s a x ≡ marked (coveredMap image s a emptyMap) x
-    alone image s a x h = sym (covered-marked image s a emptyMap empty-length x h ∙ ap (λ (t : Bool). t || reached image s a x) (marked-empty x h))
+    alone : (K : Configuration) (image : List ℕ) (s : State) (a : List ℕ) (x : ℕ) → x < romLength → reached K image s a x ≡ marked (coveredMap K image s a emptyMap) x
+    alone K image s a x h = sym (covered-marked K image s a emptyMap empty-length x h ∙ ap (λ (t : Bool). t || reached K image s a x) (marked-empty x h))
 
--- where a length is wrong, the run is refused by 7 and the map is as it was
-pub covered-refused : (image : List ℕ) (s : State) (schedule m : List ℕ) → Words m
-    → (isMapLength (length m) && (isImageLength (length image) && eqb (length schedule % recordLength) 0)) ≡ false
-    → (coveredRun image s schedule (length m) ≡ ran s 0 7) × (coveredMap image s schedule m ≡ m)
+-- where the configuration or a length is wrong, the run is refused by 7 and the map is as it was
+pub covered-refused : (K : Configuration) (image : List ℕ) (s : State) (schedule m : List ℕ) → Words m
+    → (isMapLength (length m) && (validMachine K image && eqb (length schedule % recordLength) 0)) ≡ false
+    → (coveredRun K image s schedule (length m) ≡ ran s 0 7) × (coveredMap K image s schedule m ≡ m)
 unfolding coveredRun coveredMap runOf reached completedSteps
-covered-refused image s schedule m small = on (isMapLength (length m)) refl
+covered-refused K image s schedule m small = on (isMapLength (length m)) refl
   where
-    on : (t : Bool) → isMapLength (length m) ≡ t → (t && (isImageLength (length image) && eqb (length schedule % recordLength) 0)) ≡ false
-        → (pick t (runOf image s schedule) (ran s 0 7) ≡ ran s 0 7) × (pick t (mapOf (λ a. marked m a || reached image s schedule a)) m ≡ m)
+    on : (t : Bool) → isMapLength (length m) ≡ t → (t && (validMachine K image && eqb (length schedule % recordLength) 0)) ≡ false
+        → (pick t (runOf K image s schedule) (ran s 0 7) ≡ ran s 0 7) × (pick t (mapOf (λ a. marked m a || reached K image s schedule a)) m ≡ m)
     on true h wrong = (
       rw wrong,
-      sym (map-of-marks m (λ a. marked m a || reached image s schedule a) (eqb-true (length m) mapWords h) small
+      sym (map-of-marks m (λ a. marked m a || reached K image s schedule a) (eqb-true (length m) mapWords h) small
           (λ a _. rw wrong (sym (or-false (marked m a))))),
     )
     on false h wrong = (refl, refl)
 
-pub covered-number : (image : List ℕ) (s : State) (schedule m : List ℕ) → StepNumber (coveredRun image s schedule (length m) .stop)
+pub covered-number : (K : Configuration) (image : List ℕ) (s : State) (schedule m : List ℕ) → StepNumber (coveredRun K image s schedule (length m) .stop)
 unfolding coveredRun
-covered-number image s schedule m =
-    pick-has (λ (r : Ran). StepNumber (r .stop)) (isMapLength (length m)) (runOf image s schedule) (ran s 0 7) (λ _. run-number image schedule s)
+covered-number K image s schedule m =
+    pick-has (λ (r : Ran). StepNumber (r .stop)) (isMapLength (length m)) (runOf K image s schedule) (ran s 0 7) (λ _. run-number K image schedule s)
     (λ _. inr (inl refl))
 
 -- a run that is refused by 7 leaves the map
-pub covered-seven : (image : List ℕ) (s : State) (schedule m : List ℕ) → Words m → coveredRun image s schedule (length m) .stop ≡ 7
-    → coveredMap image s schedule m ≡ m
+pub covered-seven : (K : Configuration) (image : List ℕ) (s : State) (schedule m : List ℕ) → Words m → coveredRun K image s schedule (length m) .stop ≡ 7
+    → coveredMap K image s schedule m ≡ m
 unfolding coveredRun
-covered-seven image s schedule m small = on (isMapLength (length m)) refl
+covered-seven K image s schedule m small = on (isMapLength (length m)) refl
   where
-    on : (t : Bool) → isMapLength (length m) ≡ t → pick t (runOf image s schedule) (ran s 0 7) .stop ≡ 7 → coveredMap image s schedule m ≡ m
-    on true h z = covered-refused image s schedule m small (rw h (run-seven image schedule s z)) .1
-    on false h z = covered-refused image s schedule m small (rw h) .1
+    on : (t : Bool) → isMapLength (length m) ≡ t → pick t (runOf K image s schedule) (ran s 0 7) .stop ≡ 7 → coveredMap K image s schedule m ≡ m
+    on true h z = covered-refused K image s schedule m small (rw h (run-seven K image schedule s z)) .1
+    on false h z = covered-refused K image s schedule m small (rw h) .1
 
 -- the count from an empty map is how many addresses the run reaches
-pub covered-count : (image : List ℕ) (s : State) (schedule : List ℕ)
-    → markedCount (coveredMap image s schedule emptyMap) ≡ count (reached image s schedule) (from romLength 0)
+pub covered-count : (K : Configuration) (image : List ℕ) (s : State) (schedule : List ℕ)
+    → markedCount (coveredMap K image s schedule emptyMap) ≡ count (reached K image s schedule) (from romLength 0)
 unfolding markedCount
-covered-count image s schedule =
-    count-same (marked (coveredMap image s schedule emptyMap)) (reached image s schedule) romLength 0 0
+covered-count K image s schedule =
+    count-same (marked (coveredMap K image s schedule emptyMap)) (reached K image s schedule) romLength 0 0
     (λ a l.
     let h : 0 + a < romLength = omega (arith, l) in
-    covered-marked image s schedule emptyMap empty-length (0 + a) h ∙ ap (λ (t : Bool). t || reached image s schedule (0 + a)) (marked-empty (0 + a) h))
+    covered-marked K image s schedule emptyMap empty-length (0 + a) h ∙ ap (λ (t : Bool). t || reached K image s schedule (0 + a)) (marked-empty (0 + a) h))

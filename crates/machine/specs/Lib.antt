@@ -1,6 +1,7 @@
 pub mod AppendLaws
 pub mod Count
 pub mod CoveredLaws
+pub mod EntryLaws
 pub mod Reached
 pub mod ReachedLaws
 pub mod Retired

@@ -16,6 +16,7 @@ use Rattle.isa.specs.declared.FlagSet.{FlagSet}
 use Rattle.isa.specs.declared.Instruction.{Instruction}
 use Rattle.decode.specs.Decode.{decodeAt}
 use Rattle.decode.specs.Refusals.{decode-number}
+use Rattle.semantics.specs.declared.Configuration.{Configuration}
 use Rattle.semantics.specs.declared.Mode.{Mode}
 use Rattle.semantics.specs.declared.Mode.the-variants.{Running, Idle, Stopped}
 use Rattle.semantics.specs.declared.State.{State}
@@ -23,10 +24,10 @@ use Rattle.semantics.specs.Execute.{Executed}
 use Rattle.semantics.specs.Step.{Acted, entryDue, finishOf, afterDecode, instructionAct, modeAct, actAfterRequests, requested, actedOf}
 
 -- a running machine, no entry, and no refusal
-pub record Completes (image : List ℕ) (s : State) (rec : List ℕ) : Type 0 where
+pub record Completes (K : Configuration) (image : List ℕ) (s : State) (rec : List ℕ) : Type 0 where
   pub running : s .mode ≡ Running
   pub no-entry : entryDue (requested s rec) (s .mode) ≡ false
-  pub done : actedOf image s rec .stop ≡ 0
+  pub done : actedOf K image s rec .stop ≡ 0
 
 -- an act that retires is not refused; one that may retire and is not refused does
 record Retires (may : Bool) (a : Acted) : Type 0 where
@@ -53,7 +54,7 @@ decode-place image s regs rec =
     pick-has (λ (o : Outcome (Instruction × ℕ × FlagSet)). afterDecode o image s regs rec .retired ≡ true → s .pc .0 < length image)
     (ltb (s .pc .0) (length image)) _ (refused 10) (λ h _. ltb-true (s .pc .0) (length image) h) (λ _ f. absurd (false≢true f))
 
-module _ (image : List ℕ) (s : State) (rec : List ℕ) where
+module _ (K : Configuration) (image : List ℕ) (s : State) (rec : List ℕ) where
   regs : List ℕ
   regs = requested s rec
 
@@ -74,18 +75,18 @@ module _ (image : List ℕ) (s : State) (rec : List ℕ) where
   by-mode Stopped r = absurd (false≢true r)
 
   -- a step that retires an instruction completes one
-  pub retired-completes : actedOf image s rec .retired ≡ true → Completes image s rec
+  pub retired-completes : actedOf K image s rec .retired ≡ true → Completes K image s rec
   unfolding actedOf actAfterRequests regs
   retired-completes = on (entryDue (requested s rec) (s .mode)) refl
     where
-      on : (b : Bool) → entryDue (requested s rec) (s .mode) ≡ b → actAfterRequests b image s (requested s rec) rec .retired ≡ true → Completes image s rec
+      on : (b : Bool) → entryDue (requested s rec) (s .mode) ≡ b → actAfterRequests b K image s (requested s rec) rec .retired ≡ true → Completes K image s rec
       on true h r = absurd (false≢true (finish-retires s _ false _ .done r .0))
       on false h r =
           let q = by-mode (s .mode) r in
           record { running = q .0; no-entry = h; done = rw (actedOf, h) (q .1) }
 
   -- and one that completes an instruction retires it
-  pub completes-retired : Completes image s rec → actedOf image s rec .retired ≡ true
+  pub completes-retired : Completes K image s rec → actedOf K image s rec .retired ≡ true
   unfolding actedOf actAfterRequests modeAct regs
   completes-retired h =
       let z = h .done in
@@ -94,7 +95,7 @@ module _ (image : List ℕ) (s : State) (rec : List ℕ) where
       (running-retires .does refl) (rw (h .no-entry) at z))
 
   -- an instruction that is completed begins within the image
-  pub completes-place : Completes image s rec → s .pc .0 < length image
+  pub completes-place : Completes K image s rec → s .pc .0 < length image
   unfolding actedOf actAfterRequests modeAct regs
   completes-place h =
       let r = completes-retired h in

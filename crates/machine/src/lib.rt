@@ -3,8 +3,9 @@ ghost use mathlib.Core.Path.{_≡_};
 ghost use Prim.Native.Nat.{_/_};
 ghost use lib.ListN.{length};
 ghost use Rattle.semantics.specs.Reset.{resetState, IsReset};
-ghost use Rattle.base.specs.Lengths.{romLength, recordLength};
-ghost use Rattle.semantics.specs.Step.{stepOf};
+ghost use mathlib.Core.Bool.{true};
+ghost use Rattle.base.specs.Lengths.{recordLength};
+ghost use Rattle.semantics.specs.Step.{validMachine, stepOf};
 ghost use Rattle.semantics.specs.Run.{runFrom, runOf};
 ghost use Rattle.base.specs.Choice.{pick};
 ghost use Rattle.coverage.specs.Map.{withMark};
@@ -14,6 +15,7 @@ use base::RECORD_LENGTH;
 use base::RomAddr;
 use chip::Inputs;
 use entry::Core;
+use semantics::Configuration;
 use semantics::Mode;
 use semantics::Ran;
 use semantics::State;
@@ -40,11 +42,19 @@ fn record_bytes(s: &[u8]) -> Inputs
     [s[0], s[1], s[2], s[3], s[4], s[5], s[6], s[7]]
 }
 
-// One step of a state on an image (`IMAGE_LENGTH`), under a record (`RECORD_LENGTH`): the next state and 0, or the state before it and the number of the refusal.
-pub fn step(image: &[u8], state: State, rec: &[u8]) -> Stepped
-    ensures { λ r. ⌜ r ≡ stepOf (now (image .entry)) state (now (rec .entry)) ⌝ }
+// Whether an entry's cycles are at most `base::GREATEST_ENTRY_COST`, and the image is of `base::IMAGE_LENGTH`.
+fn valid_machine(configuration: Configuration, image: &[u8]) -> bool
+    ensures { λ r. ⌜ r ≡ validMachine configuration (now (image .entry)) ⌝ }
 {
-    if !base::is_image_length(image.len()) {
+    base::is_entry_cost(configuration.entry_cost) & base::is_image_length(image.len())
+}
+
+// One step of a state on an image (`IMAGE_LENGTH`) in a configuration, under a record (`RECORD_LENGTH`): the next state and 0, or the state before
+// it and the number of the refusal.
+pub fn step(configuration: Configuration, image: &[u8], state: State, rec: &[u8]) -> Stepped
+    ensures { λ r. ⌜ r ≡ stepOf configuration (now (image .entry)) state (now (rec .entry)) ⌝ }
+{
+    if !valid_machine(configuration, image) {
         return Stepped {
             state: state,
             stop: 7,
@@ -58,7 +68,13 @@ pub fn step(image: &[u8], state: State, rec: &[u8]) -> Stepped
     }
     let mut regs = state.regs;
     let bytes = record_bytes(rec);
-    let r = step::step_in_place(image, entry::core_of(state), &mut regs, &bytes);
+    let r = step::step_in_place(
+        configuration,
+        image,
+        entry::core_of(state),
+        &mut regs,
+        &bytes,
+    );
     let core = r.core;
     Stepped {
         state: entry::state_with(regs, core),
@@ -76,10 +92,16 @@ fn mark_retired(map: &mut [u64], pc: RomAddr, retired: bool)
 }
 
 // The records of a schedule in turn, on an image. The instructions that they complete are marked in the words that the map has.
-fn run_records(image: &[u8], state: State, schedule: &[u8], map: &mut [u64]) -> Ran
-    requires { ⌜ length (now image) ≡ romLength ⌝ }
-    ensures run { λ r. ⌜ r ≡ runFrom (length (now (schedule .entry)) / recordLength) (now (image .entry)) (now (schedule .entry)) 0 state ⌝ }
-    ensures map { λ r. ⌜ Marks (now (map .entry)) (now (map .exit)) (reachedIn (r .steps) (now (image .entry)) state (now (schedule .entry))) ⌝ }
+fn run_records(
+    configuration: Configuration,
+    image: &[u8],
+    state: State,
+    schedule: &[u8],
+    map: &mut [u64],
+) -> Ran
+    requires { ⌜ validMachine configuration (now image) ≡ true ⌝ }
+    ensures run { λ r. ⌜ r ≡ runFrom (length (now (schedule .entry)) / recordLength) configuration (now (image .entry)) (now (schedule .entry)) 0 state ⌝ }
+    ensures map { λ r. ⌜ Marks (now (map .entry)) (now (map .exit)) (reachedIn (r .steps) configuration (now (image .entry)) state (now (schedule .entry))) ⌝ }
 {
     let count = schedule.len() / RECORD_LENGTH;
     let mut regs = state.regs;
@@ -90,7 +112,7 @@ fn run_records(image: &[u8], state: State, schedule: &[u8], map: &mut [u64]) -> 
         let end = at + RECORD_LENGTH;
         let rec = record_bytes(&schedule[at..end]);
         let pc = core.pc;
-        let r = step::step_in_place(image, core, &mut regs, &rec);
+        let r = step::step_in_place(configuration, image, core, &mut regs, &rec);
         core = r.core;
         if r.stop != 0 {
             return Ran {
@@ -109,12 +131,18 @@ fn run_records(image: &[u8], state: State, schedule: &[u8], map: &mut [u64]) -> 
     }
 }
 
-// A run that marks; 7 for an image of another length, and for a schedule that is not whole records.
-fn run_marking(image: &[u8], state: State, schedule: &[u8], map: &mut [u64]) -> Ran
-    ensures run { λ r. ⌜ r ≡ runOf (now (image .entry)) state (now (schedule .entry)) ⌝ }
-    ensures map { λ r. ⌜ Marks (now (map .entry)) (now (map .exit)) (reached (now (image .entry)) state (now (schedule .entry))) ⌝ }
+// A run that marks; 7 for a configuration above its limit, an image of another length, and a schedule that is not whole records.
+fn run_marking(
+    configuration: Configuration,
+    image: &[u8],
+    state: State,
+    schedule: &[u8],
+    map: &mut [u64],
+) -> Ran
+    ensures run { λ r. ⌜ r ≡ runOf configuration (now (image .entry)) state (now (schedule .entry)) ⌝ }
+    ensures map { λ r. ⌜ Marks (now (map .entry)) (now (map .exit)) (reached configuration (now (image .entry)) state (now (schedule .entry))) ⌝ }
 {
-    if !base::is_image_length(image.len()) {
+    if !valid_machine(configuration, image) {
         return Ran {
             state: state,
             steps: 0,
@@ -128,24 +156,30 @@ fn run_marking(image: &[u8], state: State, schedule: &[u8], map: &mut [u64]) -> 
             stop: 7,
         };
     }
-    run_records(image, state, schedule, map)
+    run_records(configuration, image, state, schedule, map)
 }
 
-// A run over a schedule of whole records on an image: the state after its completed steps, how many they are, and the number
+// A run over a schedule of whole records on an image in a configuration: the state after its completed steps, how many they are, and the number
 // that ended it, or 0.
-pub fn run(image: &[u8], state: State, schedule: &[u8]) -> Ran
-    ensures run { λ r. ⌜ r ≡ runOf (now (image .entry)) state (now (schedule .entry)) ⌝ }
-    ensures counted { λ r. ⌜ Counted (completedSteps (now (image .entry)) state (now (schedule .entry))) (totalCost (now (image .entry)) state (now (schedule .entry))) state r ⌝ }
+pub fn run(configuration: Configuration, image: &[u8], state: State, schedule: &[u8]) -> Ran
+    ensures run { λ r. ⌜ r ≡ runOf configuration (now (image .entry)) state (now (schedule .entry)) ⌝ }
+    ensures counted { λ r. ⌜ Counted (completedSteps configuration (now (image .entry)) state (now (schedule .entry))) (totalCost configuration (now (image .entry)) state (now (schedule .entry))) state r ⌝ }
 {
     let mut none = [0u64; 1];
-    run_marking(image, state, schedule, &mut none[..0])
+    run_marking(configuration, image, state, schedule, &mut none[..0])
 }
 
 // The same run with a lent map (`coverage::WORDS`), which then has its old marks and those of the instructions that the run completed, where they
 // began. A map of another length is refused by 7.
-pub fn run_covered(image: &[u8], state: State, schedule: &[u8], map: &mut [u64]) -> Ran
-    ensures run { λ r. ⌜ r ≡ coveredRun (now (image .entry)) state (now (schedule .entry)) (length (now (map .entry))) ⌝ }
-    ensures map { λ _. ⌜ now (map .exit) ≡ coveredMap (now (image .entry)) state (now (schedule .entry)) (now (map .entry)) ⌝ }
+pub fn run_covered(
+    configuration: Configuration,
+    image: &[u8],
+    state: State,
+    schedule: &[u8],
+    map: &mut [u64],
+) -> Ran
+    ensures run { λ r. ⌜ r ≡ coveredRun configuration (now (image .entry)) state (now (schedule .entry)) (length (now (map .entry))) ⌝ }
+    ensures map { λ _. ⌜ now (map .exit) ≡ coveredMap configuration (now (image .entry)) state (now (schedule .entry)) (now (map .entry)) ⌝ }
 {
     if map.len() != coverage::WORDS {
         return Ran {
@@ -154,5 +188,5 @@ pub fn run_covered(image: &[u8], state: State, schedule: &[u8], map: &mut [u64])
             stop: 7,
         };
     }
-    run_marking(image, state, schedule, map)
+    run_marking(configuration, image, state, schedule, map)
 }

@@ -7,6 +7,7 @@ use bench_programs::make_part;
 use bench_programs::program;
 use bench_programs::schedule;
 use bench_programs::tell;
+use semantics::Configuration;
 use semantics::State;
 use test_support::Rows;
 use test_support::print;
@@ -14,10 +15,11 @@ use test_support::print_number;
 
 // The program from reset for `parts` parts.
 fn run_parts(image: &[u8; IMAGE_LENGTH], records: &[u8; SCHEDULE], parts: u64) -> State {
+    let configuration = Configuration { entry_cost: 0 };
     let mut state = machine::reset();
     let mut left = parts;
     while left > 0 {
-        let r = machine::run(image, state, records);
+        let r = machine::run(configuration, image, state, records);
         state = r.state;
         left -= 1;
     }

@@ -1,6 +1,7 @@
 // States and configurations of the machine as the vector files give them.
 use base::RomAddr;
 use base::byte_at;
+use semantics::Configuration;
 use semantics::Mode;
 use semantics::State;
 use test_support::long_at;
@@ -79,7 +80,14 @@ pub fn is_supported_state(bytes: &[u8]) -> bool {
     word_at(bytes, DIVIDER) == 0
 }
 
-// Whether the machine has a configuration that is given as bytes: the first profile and no entry cost yet.
+// The configuration that is given as bytes.
+pub fn configuration_of(bytes: &[u8]) -> Configuration {
+    Configuration {
+        entry_cost: byte_at(bytes, ENTRY_COST),
+    }
+}
+
+// Whether the machine has a configuration that is given as bytes: the first profile yet.
 pub fn is_supported_configuration(bytes: &[u8]) -> bool {
-    (byte_at(bytes, PROFILE) == 0) & (byte_at(bytes, ENTRY_COST) == 0)
+    byte_at(bytes, PROFILE) == 0
 }

@@ -10,6 +10,7 @@ use base::RomAddr;
 use base::SP;
 use base::SP_INDEX;
 use base::byte_at;
+use semantics::Configuration;
 use semantics::Mode;
 use semantics::Ran;
 use semantics::State;
@@ -364,13 +365,18 @@ fn counter_behind(rest: Rest) -> Rest {
     r
 }
 
+// No page gives an interrupt entry cycles.
+fn configuration() -> Configuration {
+    Configuration { entry_cost: 0 }
+}
+
 // The records of a schedule up to `end`, or all of them.
 fn run_from(image: &[u8], state: State, schedule: &[u8], end: usize) -> Stepped {
     let first = 0;
     if end <= schedule.len() {
-        return stepped(machine::run(image, state, &schedule[first..end]));
+        return stepped(machine::run(configuration(), image, state, &schedule[first..end]));
     }
-    stepped(machine::run(image, state, schedule))
+    stepped(machine::run(configuration(), image, state, schedule))
 }
 
 fn stepped(ran: Ran) -> Stepped {
@@ -385,7 +391,7 @@ fn stepped(ran: Ran) -> Stepped {
 fn steps_from(image: &[u8; IMAGE_LENGTH], state: State, steps: u8) -> Stepped {
     if steps == 1 {
         let rec = [0u8; RECORD_LENGTH];
-        return machine::step(image, state, &rec);
+        return machine::step(configuration(), image, state, &rec);
     }
     let schedule = [0u8; MOST_STEPS * RECORD_LENGTH];
     run_from(

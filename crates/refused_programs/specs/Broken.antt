@@ -17,7 +17,7 @@ use Rattle.certificate.specs.declared.Verdict.the-variants.{Refused}
 use Rattle.safety.specs.Verdicts.{verdictOn}
 use Rattle.safety.specs.Statement.{Opener, byReset, byCall, byInterrupt, Demand3, StepRight, Monitored, Walk, fromReset, monitorStep}
 use Rattle.refused_programs.specs.Programs.{Program, certificate, stopping, straying, unnamed, pointing, pushing, returning, looping}
-use Rattle.refused_programs.specs.Programs.{charging, popping, fetching, resuming, serving, crossing, jumping, leaving, exceeding}
+use Rattle.refused_programs.specs.Programs.{charging, popping, fetching, resuming, serving, entering, crossing, jumping, leaving, exceeding}
 use Rattle.refused_programs.specs.Opened.{opened}
 use Rattle.refused_programs.specs.Computed.{verdict-is}
 
@@ -149,6 +149,14 @@ unfolding opened
 serving-breaks = record {
   verdict = verdict-is serving tt refl;
   broken = λ d. let z : 10 ≤ 9 = step serving d 4 .within .0 (λ e. omega arith) in omega arith;
+}
+
+-- request 03: the entry's 5 cycles are the service's, and with IRET it spends 15
+pub entering-breaks : Breaks entering 27 0x140
+unfolding opened
+entering-breaks = record {
+  verdict = verdict-is entering tt refl;
+  broken = λ d. let z : 15 ≤ 10 = step entering d 4 .within .0 (λ e. omega arith) in omega arith;
 }
 
 -- R1 is 0 and then 1: the instruction at 0102H points into table 1 and into table 2

@@ -1,4 +1,4 @@
--- Sixteen small programs with their certificates, each of which breaks one rule.
+-- Seventeen small programs with their certificates, each of which breaks one rule.
 -- Assumes nothing.
 use mathlib.Core.List.{List, [], _∷_, _++_}
 use Prim.Native.Nat.{ℕ, _-_}
@@ -9,13 +9,15 @@ use Rattle.certificate.specs.Layout.{Certificate, certificateFrom}
 use Rattle.logger_cases.specs.Gathered.{upTo}
 use Rattle.logger_cases.specs.Linearised as linearised
 
--- an image, and what its certificate has: entries by address, cells by register, rows by routine, the floor
+-- an image, and what its certificate has: entries by address, cells by register, rows by routine, the floor, the cycles of
+-- an interrupt entry
 pub record Program : Type 0 where
   pub image : List ℕ
   pub entries : List (ℕ × List ℕ)
   pub cells : List (ℕ × List ℕ)
   pub rows : List (ℕ × List ℕ)
   pub floor : ℕ
+  pub entryCost : ℕ
 
 -- where code ends, and with it the entries
 abbrev pub codeEnd : ℕ
@@ -25,7 +27,7 @@ codeEnd = 0x160
 abbrev pub certificate : Program → Certificate
 certificate p =
     certificateFrom (upTo codeEnd (λ a. choose a (p .entries) [])) (upTo 256 (λ x. choose x (p .cells) [])) (upTo 64 (λ n. choose n (p .rows) []))
-    (p .floor) 0xC0
+    (p .floor) 0xC0 (p .entryCost)
 
 -- code at 0100H, at 0120H and, of the service, at 0140H
 abbrev padded : List ℕ → List ℕ
@@ -60,6 +62,7 @@ programOf main routine need entries cells rows floor = record {
   cells = cells;
   rows = row 1 0x00 1 need 0 ∷ row 2 0x40 2 0 10 ∷ rows;
   floor = floor;
+  entryCost = 0;
 }
 
 -- main is LD SP,#C0H; CALL 0120H, again and again
@@ -68,14 +71,16 @@ calling routine need entries rows =
     programOf (0xE6 ∷ 0xD9 ∷ 0xC0 ∷ 0xF6 ∷ 0x01 ∷ 0x20 ∷ 0x8B ∷ 0xFB ∷ []) routine need
     (entry 0x100 1 255 0 ∷ entry 0x103 1 0 0 ∷ entry 0x106 1 0 0 ∷ entries) [] rows 0xA0
 
--- main is LD SP,#C0H; LD P0PND,#02H, which enables the first external source; EI, then a jump to itself; the service, with its need and bound
-abbrev interrupted : List ℕ → ℕ → ℕ → List (ℕ × List ℕ) → Program
-interrupted service need bound entries = record {
+-- main is LD SP,#C0H; LD P0PND,#02H, which enables the first external source; EI, then a jump to itself; the service, with its need and
+-- bound, and the cycles of its entry
+abbrev interrupted : List ℕ → ℕ → ℕ → ℕ → List (ℕ × List ℕ) → Program
+interrupted service need bound cost entries = record {
   image = imageOf (0xE6 ∷ 0xD9 ∷ 0xC0 ∷ 0xE6 ∷ 0xE8 ∷ 0x02 ∷ 0x9F ∷ 0x8B ∷ 0xFE ∷ []) [] service;
   entries = entry 0x100 1 255 0 ∷ entry 0x103 1 0 0 ∷ entry 0x106 1 0 0 ∷ entry 0x107 1 0 0 ∷ entries;
   cells = mains 0xE8 ∷ [];
   rows = row 1 0x00 1 0 0 ∷ row 2 0x40 2 need bound ∷ [];
   floor = 0xA0;
+  entryCost = cost;
 }
 
 -- the instruction at 0100H is undefined
@@ -129,11 +134,15 @@ fetching =
 
 -- the service is PUSH R0; IRET
 unfoldable pub resuming : Program
-resuming = interrupted (0x70 ∷ 0xC0 ∷ 0xBF ∷ []) 1 18 (entry 0x140 2 0 18 ∷ entry 0x142 2 1 10 ∷ [])
+resuming = interrupted (0x70 ∷ 0xC0 ∷ 0xBF ∷ []) 1 18 0 (entry 0x140 2 0 18 ∷ entry 0x142 2 1 10 ∷ [])
 
 -- the service is IRET, with bound 9
 unfoldable pub serving : Program
-serving = interrupted (0xBF ∷ []) 0 9 (entry 0x140 2 0 9 ∷ [])
+serving = interrupted (0xBF ∷ []) 0 9 0 (entry 0x140 2 0 9 ∷ [])
+
+-- the service is IRET, with bound 10; its entry takes 5 cycles, which the bound leaves out
+unfoldable pub entering : Program
+entering = interrupted (0xBF ∷ []) 0 10 5 (entry 0x140 2 0 10 ∷ [])
 
 -- LD R1,#00H; LD R0,@R1; INC R1, then a jump to the second; R1 is claimed 0 to 1, register 00H is in table 1 and 01H in table 2
 unfoldable pub crossing : Program
@@ -158,4 +167,5 @@ exceeding = record {
   cells = linearised.cells;
   rows = linearised.rows;
   floor = 0xA0;
+  entryCost = 0;
 }

@@ -4,7 +4,7 @@ use Prim.Native.Nat.{ℕ, _+_, _*_}
 use mathlib.Core.List.{List}
 use lib.ListN.{getD}
 use Rattle.base.specs.Formula.{Formula, Holds, le, lt, eq, neg, _&_, _⇒_, forallBelow}
-use Rattle.base.specs.Lengths.{romLength}
+use Rattle.base.specs.Lengths.{romLength, greatestEntryCost}
 use Rattle.certificate.specs.Layout.{Certificate}
 use Rattle.safety.specs.Rules.{unloaded, present, used, cellRule, claimRule, compareRule, entryRule, startRule, bareRule, addressRule, rule20}
 
@@ -55,17 +55,17 @@ module _ (C : Certificate) where
       eq (C .start 2) (getD image 0 0 * 256 + getD image 1 0) & eq (C .side 2) 2 & bareRule C (C .start 2)
 
   unfoldable pub fixedRule : List ℕ → Formula
-  fixedRule image = lt (C .floor) (C .top) & le (C .top) 0xC0 & mainRule & serviceRule image
+  fixedRule image = lt (C .floor) (C .top) & le (C .top) 0xC0 & le (C .entryCost) greatestEntryCost & mainRule & serviceRule image
 
   -- rule 20 is its parts
   pub rule20-split : (image : List ℕ) → Holds (rule20 C image)
       → Holds (fixedRule image) × Holds cellsRule × Holds startsRule × Holds addressesRule
   unfolding rule20 fixedRule mainRule serviceRule cellsRule startsRule addressesRule
-  rule20-split image (f, (t, (cells, (zero, (s1, (d1, (b1, (s2, (d2, (starts, (bare1, (bare2, addresses)))))))))))) =
-      ((f, (t, ((zero, ((s1, (d1, b1)), bare1)), (s2, (d2, bare2))))), cells, starts, addresses)
+  rule20-split image (f, (t, (cells, (zero, (s1, (d1, (b1, (s2, (d2, (starts, (bare1, (bare2, (addresses, cost))))))))))))) =
+      ((f, (t, (cost, ((zero, ((s1, (d1, b1)), bare1)), (s2, (d2, bare2)))))), cells, starts, addresses)
 
   pub rule20-join : (image : List ℕ) → Holds (fixedRule image) → Holds cellsRule → Holds startsRule → Holds addressesRule
       → Holds (rule20 C image)
   unfolding rule20 fixedRule mainRule serviceRule cellsRule startsRule addressesRule
-  rule20-join image (f, (t, ((zero, ((s1, (d1, b1)), bare1)), (s2, (d2, bare2))))) cells starts addresses =
-      (f, (t, (cells, (zero, (s1, (d1, (b1, (s2, (d2, (starts, (bare1, (bare2, addresses))))))))))))
+  rule20-join image (f, (t, (cost, ((zero, ((s1, (d1, b1)), bare1)), (s2, (d2, bare2)))))) cells starts addresses =
+      (f, (t, (cells, (zero, (s1, (d1, (b1, (s2, (d2, (starts, (bare1, (bare2, (addresses, cost)))))))))))))

@@ -218,13 +218,14 @@ fn service_rule(image: &[u8], cert: &[u8]) -> bool
     (row.start.0 == vector) & (row.side == 2) & bare_rule(cert, row.start)
 }
 
-// F < T <= C0H, and the rows of main and service.
+// F < T <= C0H, an entry's cost, and the rows of main and service.
 fn fixed_rule(image: &[u8], cert: &[u8]) -> bool
     ensures { λ r. ⌜ r ≡ decide (fixedRule (certificateOf (now (cert .entry))) (now (image .entry))) ⌝ }
 {
     let floor = entries::stack_floor(cert);
     let top = entries::stack_top(cert);
-    (floor < top) & (top <= TOP_LIMIT) & main_rule(cert) & service_rule(image, cert)
+    let cost = base::is_entry_cost(entries::entry_cost(cert));
+    (floor < top) & (top <= TOP_LIMIT) & cost & main_rule(cert) & service_rule(image, cert)
 }
 
 // Rule 20.

@@ -7,7 +7,7 @@ ghost use Rattle.base.specs.Choice.{pick};
 ghost use Rattle.base.specs.Formula.{decide, neg, eq, _⇒_};
 ghost use Rattle.certificate.specs.Layout.{Certificate, certificateOf};
 ghost use Rattle.entries.specs.Fields.{entryOf};
-ghost use Rattle.safety.specs.Rules.{sameFirst, boundAfter, boundAfterCall, rowRule, edges, plainEdge};
+ghost use Rattle.safety.specs.Rules.{sameFirst, boundAfter, boundAfterCall, openingCost, rowRule, edges, plainEdge};
 ghost use Rattle.claims.specs.Values.{edgeOf};
 ghost use Rattle.rule27.specs.Paid.{oneMoreValue, oneLessValue, afterOf, alongOf, firstValuesOf, paidAt, allPaid};
 use base::RegAddr;
@@ -247,13 +247,28 @@ fn return27(n: Entry, cost: u8) -> bool
     paid(n, e, cost, After::Nothing)
 }
 
-// A row's bound is at least its start's worst.
+// The cycles that a routine has spent when its first instruction begins.
+fn opening_cost(cert: &[u8], n: u8) -> u8
+    ensures { λ r. ⌜ r ≡ openingCost (certificateOf (now (cert .entry))) n ⌝ }
+{
+    if n == 2 {
+        return entries::entry_cost(cert);
+    }
+    0
+}
+
+// A row's bound is at least its start's worst and what opening costs.
 fn row_rule(cert: &[u8], a: RomAddr, n: Entry) -> bool
     ensures { λ r. ⌜ (n ≡ entryOf (certificateOf (now (cert .entry))) (a .0) → r ≡ decide (rowRule (certificateOf (now (cert .entry))) (a .0))) ⌝ }
 {
     let row = entries::routine_row(cert, n.routine);
     let worst = claims::worst(n);
-    (n.routine == 1) | ((row.start.0 != a.0) | (worst <= row.bound as u32))
+    let enough = covers(
+        row.bound as u32,
+        opening_cost(cert, n.routine),
+        worst as u64,
+    );
+    (n.routine == 1) | ((row.start.0 != a.0) | enough)
 }
 
 fn edges27(cert: &[u8], n: Entry, s: Summary, f: Flow, cost: u8, next: RomAddr) -> bool

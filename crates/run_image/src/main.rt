@@ -3,6 +3,7 @@ use base::IMAGE_LENGTH;
 use base::RECORD_LENGTH;
 use hex_text::Text;
 use libc::STDOUT_FILENO;
+use semantics::Configuration;
 
 // Reads a file of Intel HEX, of at most 65,536 bytes, into an image. A missing file counts as empty, which is refused by 6.
 fn read_image(name: &[u8], image: &mut [u8; IMAGE_LENGTH]) -> Text {
@@ -23,7 +24,9 @@ fn run(image: &[u8; IMAGE_LENGTH]) {
     // A record for each step. Record 50 requests the interrupt of timer 0.
     let mut schedule = [0u8; 100 * RECORD_LENGTH];
     schedule[50 * RECORD_LENGTH] = 0x01;
-    let ran = machine::run(image, machine::reset(), &schedule);
+    // An interrupt entry costs no cycles.
+    let configuration = Configuration { entry_cost: 0 };
+    let ran = machine::run(configuration, image, machine::reset(), &schedule);
     let state = ran.state;
     let pc = state.pc;
     // The number that ended the run, 0 if none did.

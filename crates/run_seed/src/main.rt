@@ -1,8 +1,8 @@
 // Runs the program in `image.hex` from reset over the records that a seed gives, `run_seed SEED RECORDS`, and prints what the run leaves and which
-// code it reached: whoever has the image, the seed and the number of records gets the same text. The starts of instructions are those of `cert.hex`,
-// where the folder has one.
-use base::CERTIFICATE_LENGTH;
+// code it reached: whoever has the files, the seed and the number of records gets the same text. The cycles of an interrupt entry and the starts of
+// instructions are those of `cert.hex`; without that file an entry takes none.
 use base::IMAGE_LENGTH;
+use base::LONG_CERTIFICATE;
 use base::RECORD_LENGTH;
 use base::RomAddr;
 use coverage::Map;
@@ -10,11 +10,16 @@ use coverage::WORDS;
 use hex_text::Text;
 use libc::STDERR_FILENO;
 use libc::STDOUT_FILENO;
+use semantics::Configuration;
 use semantics::Mode;
 use semantics::Ran;
 use semantics::State;
 use uncovered::Lowest;
 use xorshift::Filled;
+
+type Image = [u8; IMAGE_LENGTH];
+
+type Certificate = [u8; LONG_CERTIFICATE];
 
 // The most records of one call of `run_covered`, and their bytes.
 const PART: u64 = 1000;
@@ -75,14 +80,19 @@ fn behind(p: Progress, ran: Ran, seed: u32) -> Progress {
 
 // Goes on over the records that fill a buffer, and marks in the map where completed instructions began.
 fn run_records(
-    image: &[u8; IMAGE_LENGTH],
+    configuration: Configuration,
+    image: &Image,
     p: Progress,
     records: &mut [u8],
     map: &mut Map,
 ) -> Progress {
     let state = p.state;
     match xorshift::fill(p.seed, records) {
-        Filled::State(seed) => behind(p, machine::run_covered(image, state, records, map), seed),
+        Filled::State(seed) => behind(
+            p,
+            machine::run_covered(configuration, image, state, records, map),
+            seed,
+        ),
         Filled::Refused(number) => Progress {
             state: state,
             steps: p.steps,
@@ -93,7 +103,13 @@ fn run_records(
 }
 
 // Goes on over the next n records, at most PART, unless the run has ended.
-fn run_part(image: &[u8; IMAGE_LENGTH], p: Progress, n: u64, map: &mut Map) -> Progress {
+fn run_part(
+    configuration: Configuration,
+    image: &Image,
+    p: Progress,
+    n: u64,
+    map: &mut Map,
+) -> Progress {
     if p.stop != 0 {
         return p;
     }
@@ -102,11 +118,17 @@ fn run_part(image: &[u8; IMAGE_LENGTH], p: Progress, n: u64, map: &mut Map) -> P
     }
     let mut records = [0u8; SCHEDULE];
     let length = (n as usize) * RECORD_LENGTH;
-    run_records(image, p, &mut records[..length], map)
+    run_records(configuration, image, p, &mut records[..length], map)
 }
 
 // From reset, part by part: n records and then m are the n + m that the seed gives.
-fn run_parts(image: &[u8; IMAGE_LENGTH], seed: u32, count: u64, map: &mut Map) -> Progress {
+fn run_parts(
+    configuration: Configuration,
+    image: &Image,
+    seed: u32,
+    count: u64,
+    map: &mut Map,
+) -> Progress {
     let state = machine::reset();
     let mut p = Progress {
         state: state,
@@ -116,10 +138,10 @@ fn run_parts(image: &[u8; IMAGE_LENGTH], seed: u32, count: u64, map: &mut Map) -
     };
     let mut left = count;
     while left > PART {
-        p = run_part(image, p, PART, map);
+        p = run_part(configuration, image, p, PART, map);
         left -= PART;
     }
-    run_part(image, p, left, map)
+    run_part(configuration, image, p, left, map)
 }
 
 fn print(text: &[u8]) {
@@ -166,7 +188,7 @@ fn print_registers(state: State) {
 }
 
 // Reads a certificate's text from an open file, piece by piece: one that is not full is the last. No file has more pieces than it may read.
-fn read_pieces(fd: i32, cert: &mut [u8; CERTIFICATE_LENGTH]) -> Text {
+fn read_pieces(fd: i32, cert: &mut Certificate) -> Text {
     let mut s = hex_text::start();
     let mut left = u64::MAX;
     while left > 0 {
@@ -178,11 +200,11 @@ fn read_pieces(fd: i32, cert: &mut [u8; CERTIFICATE_LENGTH]) -> Text {
         }
         left -= 1;
     }
-    hex_text::finish(s, CERTIFICATE_LENGTH)
+    hex_text::finish(s, LONG_CERTIFICATE)
 }
 
 // Prints the lowest start of a certificate that the run has not reached.
-fn tell_lowest(cert: &[u8; CERTIFICATE_LENGTH], map: &Map) {
+fn tell_lowest(cert: &Certificate, map: &Map) {
     match uncovered::lowest_unmarked(cert, map) {
         Lowest::At(a) => print_address(b"lowest unmarked start ", a),
         Lowest::AllMarked => print(b"every start is marked\n"),
@@ -190,26 +212,7 @@ fn tell_lowest(cert: &[u8; CERTIFICATE_LENGTH], map: &Map) {
     }
 }
 
-// The same of the certificate in an open file.
-fn tell_unreached(fd: i32, map: &Map) {
-    let mut cert = [0u8; CERTIFICATE_LENGTH];
-    match read_pieces(fd, &mut cert) {
-        Text::Read => tell_lowest(&cert, map),
-        Text::Refused(number) => print_refused(number),
-    }
-}
-
-// Prints which code the run has reached; without a `cert.hex`, only how much.
-fn tell_reached(map: &Map) {
-    print_row(b"marked ", coverage::count(map) as u64);
-    let fd = os::open_read(b"cert.hex");
-    if fd < 0 {
-        return;
-    }
-    tell_unreached(fd, map);
-    libc::close(fd);
-}
-
+// Prints what a run leaves, and how much code it has reached.
 fn tell(p: Progress, map: &Map) {
     let state = p.state;
     let pc = state.pc;
@@ -222,12 +225,11 @@ fn tell(p: Progress, map: &Map) {
     if p.stop == 0 {
         print_row(b"next seed ", p.seed as u64);
     }
-    tell_reached(map);
-    print_registers(state);
+    print_row(b"marked ", coverage::count(map) as u64);
 }
 
 // Reads a file of Intel HEX, of at most 65,536 bytes, into an image. A missing file counts as empty, which is refused by 6.
-fn read_image(name: &[u8], image: &mut [u8; IMAGE_LENGTH]) -> Text {
+fn read_image(name: &[u8], image: &mut Image) -> Text {
     let mut text = io::large_buffer();
     let fd = os::open_read(name);
     let n = io::read_full(fd, &mut text);
@@ -235,16 +237,54 @@ fn read_image(name: &[u8], image: &mut [u8; IMAGE_LENGTH]) -> Text {
     hex_text::read_text(&text[..n], image)
 }
 
-fn run_and_tell(image: &[u8; IMAGE_LENGTH], seed: u32, count: u64) {
+// Runs, and tells; without a certificate an entry takes no cycles, and nothing is known of starts.
+fn run_alone(image: &Image, seed: u32, count: u64) {
     let mut map: Map = [0; WORDS];
-    let p = run_parts(image, seed, count, &mut map);
+    let p = run_parts(
+        Configuration { entry_cost: 0 },
+        image,
+        seed,
+        count,
+        &mut map,
+    );
     tell(p, &map);
+    print_registers(p.state);
+}
+
+// The same with a certificate.
+fn run_certified(image: &Image, cert: &Certificate, seed: u32, count: u64) {
+    let mut map: Map = [0; WORDS];
+    let configuration = Configuration {
+        entry_cost: entries::entry_cost(cert),
+    };
+    let p = run_parts(configuration, image, seed, count, &mut map);
+    tell(p, &map);
+    tell_lowest(cert, &map);
+    print_registers(p.state);
+}
+
+// With the certificate in an open file; one that is refused has no cycles of an entry, so nothing is run.
+fn run_with(fd: i32, image: &Image, seed: u32, count: u64) {
+    let mut cert: Certificate = [0; LONG_CERTIFICATE];
+    match read_pieces(fd, &mut cert) {
+        Text::Read => run_certified(image, &cert, seed, count),
+        Text::Refused(number) => print_refused(number),
+    }
+}
+
+fn run_image(image: &Image, seed: u32, count: u64) {
+    let fd = os::open_read(b"cert.hex");
+    if fd < 0 {
+        return run_alone(image, seed, count);
+    }
+    run_with(fd, image, seed, count);
+    libc::close(fd);
 }
 
 fn run(seed: u32, count: u64) {
-    let mut image = [0xFFu8; IMAGE_LENGTH];
+    let mut image: Image = [0xFF; IMAGE_LENGTH];
     match read_image(b"image.hex", &mut image) {
-        Text::Read => run_and_tell(&image, seed, count),
+        Text::Read => run_image(&image, seed, count),
         Text::Refused(number) => print_row(b"image.hex refused by ", number as u64),
     }
 }
@@ -255,7 +295,7 @@ fn main() {
     if (seed == NONE) | (count == NONE) {
         io::write_all(
             STDERR_FILENO,
-            b"run_seed SEED RECORDS, in a folder with image.hex and, for the starts, cert.hex. Both are decimal, at most 4294967295.\n",
+            b"run_seed SEED RECORDS, in a folder with image.hex and, for the cycles of an entry and the starts, cert.hex. Both are decimal, at most 4294967295.\n",
         );
         return;
     }

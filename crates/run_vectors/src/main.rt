@@ -7,11 +7,13 @@ use coverage::Map;
 use coverage::WORDS;
 use machine_states::CONFIGURATION_LENGTH;
 use machine_states::STATE_LENGTH;
+use machine_states::configuration_of;
 use machine_states::is_supported_configuration;
 use machine_states::is_supported_state;
 use machine_states::same_state;
 use machine_states::state_of;
 use map_cases::same_map;
+use semantics::Configuration;
 use semantics::Ran;
 use semantics::State;
 use test_support::Case;
@@ -41,7 +43,7 @@ const MARKED: usize = STATE + STATE_LENGTH;
 
 const EXPECTED_LENGTH: usize = MARKED + 2;
 
-type Configuration = [u8; CONFIGURATION_LENGTH];
+type ConfigurationBytes = [u8; CONFIGURATION_LENGTH];
 
 type Image = [u8; IMAGE_LENGTH];
 
@@ -76,6 +78,7 @@ fn agrees(a: Agreement) -> bool {
 
 // A run that begins with one map and is expected to leave another.
 fn covered(
+    configuration: Configuration,
     image: &Image,
     state: State,
     records: &[u8],
@@ -84,7 +87,7 @@ fn covered(
     marks: &Map,
 ) -> Agreement {
     let mut map = start;
-    let ran = machine::run_covered(image, state, records, &mut map);
+    let ran = machine::run_covered(configuration, image, state, records, &mut map);
     agreement_of(ran, &map, expected, marks)
 }
 
@@ -96,17 +99,32 @@ struct Runs {
     full: Agreement,
 }
 
-fn runs_of(image: &Image, given: &Given, records: &[u8], expected: &Expected, marks: &Map) -> Runs {
+fn runs_of(
+    configuration: Configuration,
+    image: &Image,
+    given: &Given,
+    records: &[u8],
+    expected: &Expected,
+    marks: &Map,
+) -> Runs {
     let bytes = &given[..];
     let state = state_of(&bytes[START..RECORDS]);
     let none: Map = [0; WORDS];
     let all: Map = [u64::MAX; WORDS];
-    let ran = machine::run(image, state, records);
+    let ran = machine::run(configuration, image, state, records);
     Runs {
         plain: agreement_of(ran, marks, expected, marks),
-        empty: covered(image, state, records, none, expected, marks),
-        again: covered(image, state, records, *marks, expected, marks),
-        full: covered(image, state, records, all, expected, &all),
+        empty: covered(configuration, image, state, records, none, expected, marks),
+        again: covered(
+            configuration,
+            image,
+            state,
+            records,
+            *marks,
+            expected,
+            marks,
+        ),
+        full: covered(configuration, image, state, records, all, expected, &all),
     }
 }
 
@@ -149,7 +167,7 @@ fn tell(whole: bool, supported: bool, runs: Runs) {
 }
 
 // Whether the machine has the configuration and the states of a case.
-fn is_supported(configuration: &Configuration, given: &Given, expected: &Expected) -> bool {
+fn is_supported(configuration: &ConfigurationBytes, given: &Given, expected: &Expected) -> bool {
     let start = &given[..];
     let end = &expected[..];
     is_supported_configuration(configuration)
@@ -174,7 +192,7 @@ fn first_records(schedule: &Schedule, count: u16) -> &[u8] {
 }
 
 // Reads the rest of a case, and compares; one that is cut off differs.
-fn compare(fd: i32, configuration: &Configuration, counts: Counts) -> Case {
+fn compare(fd: i32, configuration: &ConfigurationBytes, counts: Counts) -> Case {
     let mut image: Image = [255; IMAGE_LENGTH];
     let mut given: Given = [0; GIVEN_LENGTH];
     let mut schedule: Schedule = [0; SCHEDULE_LENGTH];
@@ -189,7 +207,14 @@ fn compare(fd: i32, configuration: &Configuration, counts: Counts) -> Case {
     let whole = edited & started & scheduled & ended & marked.whole & marked.distinct;
     let supported = is_supported(configuration, &given, &expected);
     let records = first_records(&schedule, count);
-    let runs = runs_of(&image, &given, records, &expected, &marks);
+    let runs = runs_of(
+        configuration_of(configuration),
+        &image,
+        &given,
+        records,
+        &expected,
+        &marks,
+    );
     if whole & supported & all_agree(runs) {
         return Case::Same;
     }
@@ -200,7 +225,7 @@ fn compare(fd: i32, configuration: &Configuration, counts: Counts) -> Case {
 }
 
 fn run_case(fd: i32, counts: Counts) -> Case {
-    let mut configuration: Configuration = [0; CONFIGURATION_LENGTH];
+    let mut configuration: ConfigurationBytes = [0; CONFIGURATION_LENGTH];
     if io::read_full(fd, &mut configuration) == 0 {
         return Case::End;
     }
@@ -221,8 +246,15 @@ fn try_words(words: usize) {
     let image: Image = [255; IMAGE_LENGTH];
     let mut map = [0u64; WORDS + 1];
     let state = machine::reset();
+    let configuration = Configuration { entry_cost: 0 };
     if words <= WORDS + 1 {
-        let ran = machine::run_covered(&image, state, &[0; RECORD_LENGTH], &mut map[0..words]);
+        let ran = machine::run_covered(
+            configuration,
+            &image,
+            state,
+            &[0; RECORD_LENGTH],
+            &mut map[0..words],
+        );
         print_number(words as u64);
         print(b" words: ");
         print_number(ran.stop as u64);

@@ -324,7 +324,7 @@ module _ (C : Certificate) (image : List ℕ) (global : Global C image) (more : 
       = claims-follow C more a e r (v .registers) (v .claims) (v .compare) 8 t Write.Nothing tt r′ (pu .registers) (pu .cells) et
       (subst (λ (k : Edge). Holds (claimsFollow C a k Write.Nothing)) edge (m .claims .1 .1 .1 .0)) in
       let bw = now-worst C more t r′ tN et ct in
-      let row = global .rows t tN (omega arith) st in
+      let row = global .rows t (C .routine t) tN refl (omega arith) st in
       let ssp = ca .pointer in
       let nf : C .need (f .routine) ≡ C .need (C .routine a) = ap (C .need) (sym hm) in
       let sf : C .side (f .routine) ≡ C .side (C .routine a) = ap (C .side) (sym hm) in

@@ -44,7 +44,7 @@ pub record CertificateFacts (C : Certificate) : Type 0 where
 absent-first : (C : Certificate) (image : List ℕ) → Accepts C image → (a : ℕ) → a < romLength → C .firstCell a ≡ noCell → C .firstLow a ≡ 0
 unfolding addressRule emptyEntry entryRule claimRule
 absent-first C image ok a h e =
-    let p = rule20-facts C image ok .addresses a h in
+    let p = rule20-facts C image (ok .r20) .addresses a h in
     ⊎-elim (λ (z : C .routine a ≡ 0). let q = p .0 z in absurd (let y = q .1 .1 .1 .1 .0 in omega arith))
     (λ (n : C .routine a ≢ 0). let q = p .1 n in q .1 .1 .1 .1 .1 .0 .1 e .0) (same? (C .routine a) 0)
 
@@ -52,7 +52,7 @@ start-depth : (C : Certificate) (image : List ℕ) → Accepts C image → (a : 
     → C .depth a ≡ 0
 unfolding addressRule entryRule startRule
 start-depth C image ok a h u e =
-    let f = rule20-facts C image ok in
+    let f = rule20-facts C image (ok .r20) in
     let p = f .addresses a h .1 (λ z. omega arith) in
     let q = f .starts (C .routine a) (p .0) (p .1 .0) .1 .1 .0 in
     let n : C .routine a ≡ 1 → ⊥ = λ z. omega arith in

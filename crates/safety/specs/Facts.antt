@@ -8,11 +8,12 @@ use Prim.Native.Nat.{ℕ, _+_, _≤_, _<_}
 use native.Mathlib.Omega.{arith}
 use Rattle.base.specs.Addresses.{flagsCell, spCell, symCell}
 use Rattle.base.specs.Formula.{Holds, same?, case-bool}
-use Rattle.base.specs.Lengths.{romLength}
+use Rattle.base.specs.Lengths.{romLength, greatestEntryCost}
 use Rattle.chip.specs.Registers.{mappedOf}
+use Rattle.certificate.specs.declared.Summary.{Summary}
 use Rattle.certificate.specs.Layout.{Certificate}
 use Rattle.safety.specs.Rules.{ramEnd, unloaded, noCell, worst, used, cellRule, claimable, claimRule, compareRule}
-use Rattle.safety.specs.Rules.{entryRule, addressRule, startRule, bareRule, rule20, rowRule, rule25, rule27, writable}
+use Rattle.safety.specs.Rules.{entryRule, addressRule, startRule, bareRule, rule20, openingCost, rowRule, rule25, rule27, writable}
 use Rattle.semantics.specs.Step.{vectorOf}
 use Rattle.safety.specs.Accepted.{Accepts}
 
@@ -52,8 +53,8 @@ pub record Global (C : Certificate) (image : List ℕ) : Type 0 where
   pub serviceStart : C .start 2 ≡ vectorOf image
   pub room : C .need 1 + 3 + C .need 2 + C .floor ≤ C .top
   pub entry : (a : ℕ) → a < romLength → 1 ≤ C .routine a → EntryFacts C a
-  -- a row's bound covers its start's worst
-  pub rows : (a : ℕ) → a < romLength → 2 ≤ C .routine a → C .start (C .routine a) ≡ a → worst C a ≤ C .bound (C .routine a)
+  -- a row's bound covers what opening costs and its start's worst
+  pub rows : (a n : ℕ) → a < romLength → C .routine a ≡ n → 2 ≤ n → C .start n ≡ a → openingCost C n + worst C a ≤ C .bound n
 
 -- a cell that may be claimed if there is one
 claimed-cell : (C : Certificate) (a x : ℕ) → (x ≢ noCell → Holds (claimable C a x))
@@ -104,11 +105,11 @@ pub record Rule20Facts (C : Certificate) (image : List ℕ) : Type 0 where
   pub mainBare : Holds (bareRule C (C .start 1))
   pub serviceBare : Holds (bareRule C (C .start 2))
   pub addresses : (a : ℕ) → a < romLength → Holds (addressRule C a)
+  pub entryCost : C .entryCost ≤ greatestEntryCost
 
-pub rule20-facts : (C : Certificate) (image : List ℕ) → Accepts C image → Rule20Facts C image
+pub rule20-facts : (C : Certificate) (image : List ℕ) → Holds (rule20 C image) → Rule20Facts C image
 unfolding rule20
-rule20-facts C image ok =
-    let p = ok .r20 in
+rule20-facts C image p =
     let main = p .1 .1 .1 .1 in
     let service = main .1 .1 .1 in
     let rest = service .1 .1 in
@@ -122,13 +123,11 @@ rule20-facts C image ok =
       starts = rest .0;
       mainBare = rest .1 .0;
       serviceBare = rest .1 .1 .0;
-      addresses = rest .1 .1 .1;
+      addresses = rest .1 .1 .1 .0;
+      entryCost = rest .1 .1 .1 .1;
     }
 
-module _ (C : Certificate) (image : List ℕ) (ok : Accepts C image) where
-  parts : Rule20Facts C image
-  parts = rule20-facts C image ok
-
+module _ (C : Certificate) (image : List ℕ) (parts : Rule20Facts C image) where
   sides : (n : ℕ) → n < 64 → Holds (used C n) → (1 ≤ C .side n) × (C .side n ≤ 2)
   unfolding startRule
   sides n h u = let z = parts .starts n h u in ⊎-elim (λ e. (omega arith, omega arith)) (λ e. (omega arith, omega arith)) (z .1 .1 .1)
@@ -147,6 +146,14 @@ module _ (C : Certificate) (image : List ℕ) (ok : Accepts C image) where
   unfolding used
   used-service z = let s = parts .serviceSide in omega arith
 
+  -- the service starts in ROM, and its entry there names it
+  pub service-start : (vectorOf image < romLength) × (C .routine (vectorOf image) ≡ 2)
+  unfolding startRule
+  service-start =
+      let z = parts .starts 2 (omega arith) used-service in
+      let e = parts .serviceStart in
+      (omega arith, ap (C .routine) (sym e) ∙ z .1 .0)
+
   special : (x : ℕ) → x < 256 → (x ≡ flagsCell) ⊎ (x ≡ spCell) ⊎ (x ≡ symCell) → C .class x ≡ 0
   unfolding cellRule
   special x h e = parts .cells x h .1 (inr (⊎-elim inl (λ q. inr (⊎-elim inl (λ q. inr (inl q)) q)) e)) .0
@@ -161,35 +168,42 @@ module _ (C : Certificate) (image : List ℕ) (ok : Accepts C image) where
   table-mapped x h n =
       ⊎-elim (λ t. t) (λ f. absurd (n (parts .cells x h .1 (inr (inr (inr (inr (λ t. false≢true (sym f ∙ t)))))) .1))) (case-bool (mappedOf x))
 
+-- the row of a routine whose start keeps 27
+pub row-at : (C : Certificate) (a n : ℕ) (S : Summary) (cost next : ℕ) → Holds (rule27 C a S cost next) → C .routine a ≡ n → 2 ≤ n → C .start n ≡ a
+    → openingCost C n + worst C a ≤ C .bound n
+unfolding rule27 rowRule
+row-at C a n S cost next h r u e = ⊎-elim (λ q. absurd (omega arith)) (λ q. q e) (rw r at (h .1 .1 .1))
+
+module _ (C : Certificate) (image : List ℕ) (ok : Accepts C image) where
+  parts : Rule20Facts C image
+  parts = rule20-facts C image (ok .r20)
+
   room-rule : C .need 1 + 3 + C .need 2 + C .floor ≤ C .top
   unfolding rule25 startRule
   room-rule =
-      let z = parts .starts 1 (omega arith) used-main in
+      let z = parts .starts 1 (omega arith) (used-main C image parts) in
       let e = parts .mainStart in
       let r : C .routine 0x100 ≡ 1 = ap (C .routine) (sym e) ∙ z .1 .0 in
       ok .rules 0x100 (omega arith) (λ q. omega arith) .r25 .1 .1 .1 .1 .1 refl
-
-  row-rule : (a : ℕ) → a < romLength → 2 ≤ C .routine a → C .start (C .routine a) ≡ a → worst C a ≤ C .bound (C .routine a)
-  unfolding rule27 rowRule
-  row-rule a h u e = ⊎-elim (λ q. absurd (omega arith)) (λ q. q e) (ok .rules a h (λ q. omega arith) .r27 .1 .1 .1)
 
   pub global : Global C image
   unfolding startRule bareRule
   global =
       let p = parts in
-      let m = p .starts 1 (omega arith) used-main in
-      let v = p .starts 2 (omega arith) used-service in
+      let m = p .starts 1 (omega arith) (used-main C image p) in
+      let v = p .starts 2 (omega arith) (used-service C image p) in
+      let s = service-start C image p in
       let em = p .mainStart in
       let ev = p .serviceStart in
       let bm = p .mainBare in
       let bv = p .serviceBare in
       record {
         stackTop = p .stackTop;
-        stackClass = in-stack;
-        flagsClass = special flagsCell (omega arith) (inl refl);
-        spClass = special spCell (omega arith) (inr (inl refl));
-        symClass = special symCell (omega arith) (inr (inr refl));
-        tableMapped = table-mapped;
+        stackClass = in-stack C image p;
+        flagsClass = special C image p flagsCell (omega arith) (inl refl);
+        spClass = special C image p spCell (omega arith) (inr (inl refl));
+        symClass = special C image p symCell (omega arith) (inr (inr refl));
+        tableMapped = table-mapped C image p;
         mainSide = p .mainSide;
         serviceSide = p .serviceSide;
         mainRoutine = ap (C .routine) (sym em) ∙ m .1 .0;
@@ -197,14 +211,18 @@ module _ (C : Certificate) (image : List ℕ) (ok : Accepts C image) where
         mainFirst = ap (C .firstCell) (sym em) ∙ bm .0;
         mainSecond = ap (C .secondCell) (sym em) ∙ bm .1 .0;
         mainCompare = ap (C .compareCell) (sym em) ∙ bm .1 .1;
-        vectorInRom = omega arith;
-        serviceRoutine = ap (C .routine) (sym ev) ∙ v .1 .0;
+        vectorInRom = s .0;
+        serviceRoutine = s .1;
         serviceDepth = ap (C .depth) (sym ev) ∙ v .1 .1 .0;
         serviceFirst = ap (C .firstCell) (sym ev) ∙ bv .0;
         serviceSecond = ap (C .secondCell) (sym ev) ∙ bv .1 .0;
         serviceCompare = ap (C .compareCell) (sym ev) ∙ bv .1 .1;
         serviceStart = ev;
         room = room-rule;
-        entry = entry-at;
-        rows = row-rule;
+        entry = entry-at C image p;
+        rows = λ a n h r u e. row-at C a n _ _ _ (ok .rules a h (λ q. omega arith) .r27) r u e;
       }
+
+-- the service's bound covers the cycles of an entry and its start's worst
+pub service-row : (C : Certificate) (image : List ℕ) → Global C image → C .entryCost + worst C (vectorOf image) ≤ C .bound 2
+service-row C image g = g .rows (vectorOf image) 2 (g .vectorInRom) (g .serviceRoutine) (omega arith) (g .serviceStart)

@@ -58,6 +58,7 @@ formerRules C image a =
     let S = formerSummary image a in
     rulesWith (rule24By C (formerInRom C) a S) C a S (nextAt image a) (costAt image a)
 
+-- over today's other rules and lengths: certificates of 58,499 bytes came later, with request 03
 abbrev pub verdictFormerly : List ℕ → List ℕ → Verdict
 verdictFormerly = verdictBy formerRules
 

@@ -20,15 +20,15 @@ use Rattle.alu.specs.Laws.{update-whole}
 use Rattle.action.specs.declared.Action.{Action}
 use Rattle.semantics.specs.Operands.{withFlags, raised, flagsOf, pushOf, pushAddress}
 use Rattle.semantics.specs.Execute.{executeOf, returnOf, interruptReturnOf}
-use Rattle.semantics.specs.Step.{vectorOf, entryCost, enterOf}
+use Rattle.semantics.specs.Step.{vectorOf, enterOf}
 use Rattle.certificate.specs.declared.Flow.{Flow}
 use Rattle.certificate.specs.declared.Flow.the-variants.{InterruptReturn}
 use Rattle.certificate.specs.declared.Summary.{Summary}
 use Rattle.certificate.specs.Layout.{Certificate}
-use Rattle.safety.specs.Rules.{ramEnd, plainEdge, boundAt, worst, flowAllowed, paid, rule22}
+use Rattle.safety.specs.Rules.{ramEnd, plainEdge, boundAt, flowAllowed, paid, rule22}
 use Rattle.safety.specs.Statement.{Opener, byReset, byCall, byInterrupt, Frame}
 use Rattle.safety.specs.Invariant.{at, Registers, Awake, Claims, reserve, InterruptLink, Link, frameSize, Chain, Invariant}
-use Rattle.safety.specs.Facts.{Global, EntryFacts}
+use Rattle.safety.specs.Facts.{Global, EntryFacts, service-row}
 use Rattle.safety.specs.Memory.{sp-registers, sp-other, sp-same, interrupts-registers, flags-all, flags-other, flags-registers, high-nibble}
 use Rattle.safety.specs.Chain.{chain-room, chain-top, chain-keep}
 use Rattle.safety.specs.Edge.{CertificateFacts, in-range, now-worst}
@@ -44,8 +44,8 @@ flags-pushed : (r r′ : List ℕ) → Registers r → at r′ flagsCell ≡ at 
 flags-pushed r r′ g e = let z = g .flags in omega arith
 
 -- the frame that an interrupt at pc opens
-abbrev pub serviceFrame : ℕ → Frame
-serviceFrame pc = record { routine = 2; returnTo = pc; cycles = entryCost; opener = byInterrupt }
+abbrev pub serviceFrame : Certificate → ℕ → Frame
+serviceFrame C pc = record { routine = 2; returnTo = pc; cycles = C .entryCost; opener = byInterrupt }
 
 -- the registers after IRET: FLAGS from @SP, SP three higher, interrupts enabled
 record Resumed (r r′ : List ℕ) : Type 0 where
@@ -140,7 +140,7 @@ module _ (C : Certificate) (image : List ℕ) (global : Global C image) (more : 
 
   -- what the interrupted routine relies on when the service returns
   entry-link : (r r′ : List ℕ) (pc : ℕ) (f : Frame) (fs : List Frame) → Invariant C true r pc f fs → C .side (C .routine pc) ≡ 1 → Entered r r′ pc
-      → InterruptLink C r′ (at r′ spCell + C .depth (vectorOf image)) (serviceFrame pc) f
+      → InterruptLink C r′ (at r′ spCell + C .depth (vectorOf image)) (serviceFrame C pc) f
   entry-link r r′ pc f fs v s1 en =
       let e = entry-of C image global true r pc f fs v in
       let hm = v .home in
@@ -174,7 +174,7 @@ module _ (C : Certificate) (image : List ℕ) (global : Global C image) (more : 
 
   -- the invariant at the vector
   entered-inv : (r r′ : List ℕ) (pc : ℕ) (f : Frame) (fs : List Frame) → Invariant C true r pc f fs → C .side (C .routine pc) ≡ 1 → Entered r r′ pc
-      → Invariant C true r′ (vectorOf image) (serviceFrame pc) (f ∷ fs)
+      → Invariant C true r′ (vectorOf image) (serviceFrame C pc) (f ∷ fs)
   entered-inv r r′ pc f fs v s1 en =
       let e = entry-of C image global true r pc f fs v in
       let to = vectorOf image in
@@ -196,9 +196,7 @@ module _ (C : Certificate) (image : List ℕ) (global : Global C image) (more : 
       in-range C to x (at r′ x) (λ q. let z = global .serviceFirst in absurd (omega arith)) (λ q. let z = global .serviceSecond in absurd (omega arith))
       (pu .registers .bytes x) in
       let bw = now-worst C more to r′ (global .vectorInRom) ev cv in
-      let row : worst C to ≤ C .bound 2
-      = subst (λ (n : ℕ). worst C to ≤ C .bound n) vr
-      (global .rows to (global .vectorInRom) (omega arith) (ap (C .start) vr ∙ global .serviceStart)) in
+      let row = service-row C image global in
       record {
         inRom = global .vectorInRom;
         home = vr;
@@ -226,7 +224,7 @@ module _ (C : Certificate) (image : List ℕ) (global : Global C image) (more : 
     pub goes : enterOf image r pc .next .stop ≡ 0
     pub mode : Awake (enterOf image r pc .next .mode)
     pub counter : enterOf image r pc .next .pc .0 ≡ vectorOf image
-    pub invariant : Invariant C ld (enterOf image r pc .regs) (vectorOf image) (serviceFrame (pc .0)) (f ∷ fs)
+    pub invariant : Invariant C ld (enterOf image r pc .regs) (vectorOf image) (serviceFrame C (pc .0)) (f ∷ fs)
 
   pub inv-enter : (ld : Bool) (r : List ℕ) (pc : RomAddr) (f : Frame) (fs : List Frame) → Invariant C ld r (pc .0) f fs
       → interruptsEnabled r ≡ true → EntryRight ld r pc f fs

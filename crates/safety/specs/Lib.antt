@@ -9,6 +9,7 @@ pub mod CodeRangeLaws
 pub mod Coherent
 pub mod DecodedShape
 pub mod Edge
+pub mod EntryCost
 pub mod Exact
 pub mod Facts
 pub mod Formerly

@@ -8,7 +8,7 @@ use lib.Dec.{eqb, ltb, leb}
 use Rattle.base.specs.Addresses.{flagsCell, spCell, symCell}
 use Rattle.base.specs.Choice.{pick, choose}
 use Rattle.base.specs.Formula.{Formula, always, never, le, lt, eq, test, neg, _&_, _‖_, _⇒_, forallBelow}
-use Rattle.base.specs.Lengths.{romLength}
+use Rattle.base.specs.Lengths.{romLength, greatestEntryCost}
 use Rattle.chip.specs.Registers.{mappedOf}
 use Rattle.certificate.specs.declared.NewValue.{NewValue}
 use Rattle.certificate.specs.declared.NewValue.the-variants.{Number, OneMore, OneLess, Within, CopyOf, Unknown}
@@ -249,7 +249,7 @@ module _ (C : Certificate) where
   unfoldable pub bareRule : ℕ → Formula
   bareRule a = eq (C .firstCell a) noCell & eq (C .secondCell a) noCell & eq (C .compareCell a) noCell
 
-  -- F < T <= C0H; main starts at 0100H, side 1, bound 0; service starts at the vector, side 2; row 0 is zero
+  -- F < T <= C0H; main starts at 0100H, side 1, bound 0; service starts at the vector, side 2; row 0 is zero; an entry's cycles are 0 to 63
   unfoldable pub rule20 : List ℕ → Formula
   rule20 image =
       lt (C .floor) (C .top)
@@ -265,6 +265,7 @@ module _ (C : Certificate) where
       & bareRule (C .start 1)
       & bareRule (C .start 2)
       & forallBelow romLength addressRule
+      & le (C .entryCost) greatestEntryCost
 
   -- What the rules at an address say of an instruction there: a its address, S its summary, next the address behind it --
 
@@ -484,9 +485,13 @@ module _ (C : Certificate) where
   unfoldable pub edge27 : ℕ → Summary → ℕ → Edge → Formula
   edge27 a S cost e = feasible a e ⇒ paid a e cost (boundAfter a (S .write) (e .to))
 
-  -- a row's bound below its start's worst, reported at the start
+  -- the cycles that a routine has spent when its first instruction begins: the service's are those of the entry (request 03)
+  abbrev pub openingCost : ℕ → ℕ
+  openingCost n = pick (eqb n 2) (C .entryCost) 0
+
+  -- a row's bound below its start's worst and what opening costs, reported at the start
   unfoldable pub rowRule : ℕ → Formula
-  rowRule a = exempt a ‖ (eq (C .start (C .routine a)) a ⇒ le (worst a) (C .bound (C .routine a)))
+  rowRule a = exempt a ‖ (eq (C .start (C .routine a)) a ⇒ le (openingCost (C .routine a) + worst a) (C .bound (C .routine a)))
 
   unfoldable pub rule27 : ℕ → Summary → ℕ → ℕ → Formula
   rule27 a S cost next =

@@ -9,11 +9,10 @@ use Rattle.base.specs.Formula.{eqb-yes}
 use Rattle.base.specs.Lengths.{recordLength}
 use Rattle.semantics.specs.declared.State.{State}
 use Rattle.semantics.specs.declared.Ran.{Ran}
-use Rattle.semantics.specs.Step.{stepOf}
 use Rattle.semantics.specs.Run.{recordAt, runFrom}
 use Rattle.certificate.specs.Layout.{Certificate}
 use Rattle.safety.specs.ByteLaws.{take-bytes, drop-bytes}
-use Rattle.safety.specs.Statement.{Event, Monitored, actedState, afterStep, monitorStep, eventOf, Walk}
+use Rattle.safety.specs.Statement.{Event, Monitored, configurationOf, stepped, actedState, afterStep, monitorStep, eventOf, Walk}
 
 pub record-bytes : (schedule : List ℕ) → ((i : ℕ) → getD schedule i 0 < 256) → (k i : ℕ) → getD (recordAt schedule k) i 0 < 256
 record-bytes schedule h k i =
@@ -32,13 +31,13 @@ module _ (C : Certificate) (image : List ℕ) where
   after-state zero e m a s′ h = refl
   after-state (suc n) e m a s′ h = absurd (omega arith)
 
-  pub step-state : (m : Monitored) (rec : List ℕ) → stepOf image (m .state) rec .stop ≡ 0 → monitorStep C image m rec .state ≡ stepOf image (m .state) rec .state
+  pub step-state : (m : Monitored) (rec : List ℕ) → stepped C image m rec .stop ≡ 0 → monitorStep C image m rec .state ≡ stepped C image m rec .state
   unfolding monitorStep
   step-state m rec h =
-      after-state (stepOf image (m .state) rec .stop) (eventOf image (m .state) rec) m (actedState image m rec) (stepOf image (m .state) rec .state) h
+      after-state (stepped C image m rec .stop) (eventOf image (m .state) rec) m (actedState C image m rec) (stepped C image m rec .state) h
 
   pub walk-run : (k : ℕ) (tables : ℕ → ℕ) (schedule : List ℕ) (i : ℕ) (m : Monitored) → Walk C image k tables schedule i m
-      → Done (runFrom k image schedule i (m .state)) (i + k)
+      → Done (runFrom k (configurationOf C) image schedule i (m .state)) (i + k)
   unfolding runFrom
   walk-run zero tables schedule i m w = (omega arith, refl)
   walk-run (suc k) tables schedule i m w =

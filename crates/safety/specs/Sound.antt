@@ -9,10 +9,10 @@ use lib.Dec.{T}
 use lib.ListN.{length, getD}
 use Rattle.base.specs.declared.RomAddr.{RomAddr}
 use Rattle.base.specs.Addresses.{spCell, symCell}
-use Rattle.base.specs.Formula.{eqb-yes}
+use Rattle.base.specs.Formula.{eqb-yes, leb-yes}
 use Rattle.base.specs.Outcome.{Outcome}
 use Rattle.base.specs.Outcome.Outcome.{value}
-use Rattle.base.specs.Lengths.{romLength, recordLength}
+use Rattle.base.specs.Lengths.{romLength, greatestEntryCost, recordLength}
 use Rattle.isa.specs.declared.FlagSet.{FlagSet}
 use Rattle.isa.specs.declared.Instruction.{Instruction}
 use Rattle.isa.specs.Map.{cyclesOf}
@@ -28,17 +28,18 @@ use Rattle.semantics.specs.declared.State.{State}
 use Rattle.semantics.specs.declared.Stepped.{Stepped}
 use Rattle.semantics.specs.Operands.{spOf}
 use Rattle.semantics.specs.Execute.{Executed, executeOf}
-use Rattle.semantics.specs.Step.{Acted, requested, entryDue, entryCost, behind, movedTo, idleCycles, finishOf, enterOf}
-use Rattle.semantics.specs.Step.{afterDecode, instructionAct, waitingAct, modeAct, actAfterRequests, actedOf, settled, stepOf}
+use Rattle.semantics.specs.Step.{Acted, requested, entryDue, behind, movedTo, idleCycles, finishOf, enterOf}
+use Rattle.semantics.specs.Step.{afterDecode, instructionAct, waitingAct, modeAct, actAfterRequests, actedOf, settled, validMachine, stepOf}
 use Rattle.semantics.specs.Run.{recordAt, runOf}
 use Rattle.semantics.specs.Reset.{IsReset}
 use Rattle.certificate.specs.Layout.{Certificate}
 use Rattle.safety.specs.Verdicts.{summaryAt, costAt}
 use Rattle.safety.specs.Statement.{Frame, Event, entered, waited, executed, decodedEvent, modeEvent, dueEvent, eventOf, Monitored, spent, loadedBy, loadsTop}
-use Rattle.safety.specs.Statement.{actedState, afterStep, monitorStep, EventRight, Within, StepRight, Walk, Schedule, RunRight, fromReset, Demand3, byReset}
+use Rattle.safety.specs.Statement.{configurationOf, stepped, actedState, afterStep, monitorStep, EventRight, Within, StepRight, Walk, Schedule, RunRight}
+use Rattle.safety.specs.Statement.{fromReset, Demand3, byReset}
 use Rattle.safety.specs.Invariant.{at, Registers, Awake, Invariant, tableOf}
 use Rattle.safety.specs.Accepted.{Accepts}
-use Rattle.safety.specs.Facts.{Global, global}
+use Rattle.safety.specs.Facts.{Global, rule20-facts, global}
 use Rattle.safety.specs.Memory.{Input}
 use Rattle.safety.specs.DecodedShape.{decoded-shaped}
 use Rattle.safety.specs.Edge.{CertificateFacts, in-range}
@@ -73,6 +74,10 @@ module _ (C : Certificate) (image : List ℕ) (ok : Accepts C image) (facts : Ce
   whole : Global C image
   whole = global C image ok
 
+  -- a machine with the certificate's cycles of an entry is valid
+  valid : validMachine (configurationOf C) image ≡ true
+  valid = rw (leb-yes {b = greatestEntryCost} (rule20-facts C image (ok .r20) .entryCost), size)
+
   -- the table of the instruction at each ROM address
   unfoldable pub tables : ℕ → ℕ
   tables a = tableOf C a (summaryAt C image a)
@@ -87,7 +92,7 @@ module _ (C : Certificate) (image : List ℕ) (ok : Accepts C image) (facts : Ce
     goes : x .stop ≡ 0
     event : EventRight C image tables m rec e (x .state .pc .0)
     stack : loadedBy C e (m .loaded) ≡ true → (C .floor ≤ spOf (x .state .regs)) × (spOf (x .state .regs) ≤ C .top)
-    within : Within C (spent image e (m .state) (m .frames) .inner ∷ spent image e (m .state) (m .frames) .outer)
+    within : Within C (spent C image e (m .state) (m .frames) .inner ∷ spent C image e (m .state) (m .frames) .outer)
     kept : Kept (afterStep C image 0 e m (x .state) (x .state))
 
   -- a step that is the event e, acts as a and settles in x
@@ -191,13 +196,13 @@ module _ (C : Certificate) (image : List ℕ) (ok : Accepts C image) (facts : Ce
 
   -- an interrupt entry
   good-entered : (m : Monitored) (rec : List ℕ) → Kept m → Input rec → interruptsEnabled (requested (m .state) rec) ≡ true
-      → Good m rec (finishOf (m .state) (enterOf image (requested (m .state) rec) (m .state .pc)) false entryCost) entered
+      → Good m rec (finishOf (m .state) (enterOf image (requested (m .state) rec) (m .state .pc)) false (C .entryCost)) entered
   good-entered m rec k input on =
       let e = enterOf image (requested (m .state) rec) (m .state .pc) in
       let w = inv-enter C image whole facts (m .loaded) (requested (m .state) rec) (m .state .pc) (m .frames .inner) (m .frames .outer) (requested-kept m rec k input) on in
-      let i : Invariant C (m .loaded) (e .regs) (e .next .pc .0) (serviceFrame (m .state .pc .0)) (m .frames .inner ∷ m .frames .outer)
-      = subst (λ (n : ℕ). Invariant C (m .loaded) (e .regs) n (serviceFrame (m .state .pc .0)) (m .frames .inner ∷ m .frames .outer)) (sym (w .counter)) (w .invariant) in
-      subst (λ (x : Acted). Good m rec x entered) (finish-is (m .state) e false entryCost (w .goes))
+      let i : Invariant C (m .loaded) (e .regs) (e .next .pc .0) (serviceFrame C (m .state .pc .0)) (m .frames .inner ∷ m .frames .outer)
+      = subst (λ (n : ℕ). Invariant C (m .loaded) (e .regs) n (serviceFrame C (m .state .pc .0)) (m .frames .inner ∷ m .frames .outer)) (sym (w .counter)) (w .invariant) in
+      subst (λ (x : Acted). Good m rec x entered) (finish-is (m .state) e false (C .entryCost) (w .goes))
       (record {
         goes = refl;
         event = tt;
@@ -224,19 +229,22 @@ module _ (C : Certificate) (image : List ℕ) (ok : Accepts C image) (facts : Ce
     good-mode Stopped h = absurd h
 
     good-due : (b : Bool) → entryDue (requested (m .state) rec) (m .state .mode) ≡ b
-        → Good m rec (actAfterRequests b image (m .state) (requested (m .state) rec) rec) (dueEvent b (m .state .mode) image (m .state .pc))
+        → Good m rec (actAfterRequests b (configurationOf C) image (m .state) (requested (m .state) rec) rec) (dueEvent b (m .state .mode) image (m .state .pc))
     unfolding actAfterRequests
     good-due true q = good-entered m rec k input (due-enabled (requested (m .state) rec) (m .state .mode) q)
     good-due false q = good-mode (m .state .mode) (k .awake)
 
     -- the act of the step
-    good-act : Good m rec (actedOf image (m .state) rec) (eventOf image (m .state) rec)
+    abbrev acted : Acted
+    acted = actedOf (configurationOf C) image (m .state) rec
+
+    good-act : Good m rec acted (eventOf image (m .state) rec)
     unfolding actedOf eventOf
     good-act = good-due (entryDue (requested (m .state) rec) (m .state .mode)) refl
 
-    good-step : length rec ≡ recordLength → Settles m (actedOf image (m .state) rec) (eventOf image (m .state) rec) (stepOf image (m .state) rec)
+    good-step : length rec ≡ recordLength → Settles m acted (eventOf image (m .state) rec) (stepped C image m rec)
     unfolding stepOf
-    good-step h = rw (size, h) (good-settled m rec (actedOf image (m .state) rec) (eventOf image (m .state) rec) good-act)
+    good-step h = rw (valid, h) (good-settled m rec acted (eventOf image (m .state) rec) good-act)
 
     step-right : length rec ≡ recordLength → StepRight C image tables m rec
     step-right h = let g = good-act in record { goes = good-step h .goes; event = g .event; stack = g .stack; within = g .within }
@@ -245,7 +253,7 @@ module _ (C : Certificate) (image : List ℕ) (ok : Accepts C image) (facts : Ce
     unfolding monitorStep
     step-kept h =
         let g = good-step h in
-        subst (λ (n : ℕ). Kept (afterStep C image n (eventOf image (m .state) rec) m (actedState image m rec) (stepOf image (m .state) rec .state)))
+        subst (λ (n : ℕ). Kept (afterStep C image n (eventOf image (m .state) rec) m (actedState C image m rec) (stepped C image m rec .state)))
         (sym (g .goes)) (g .kept)
 
   walk : (k : ℕ) (schedule : List ℕ) → ((i : ℕ) → getD schedule i 0 < 256) → (i : ℕ) → k + i ≤ length schedule / recordLength → (m : Monitored)
@@ -264,7 +272,7 @@ module _ (C : Certificate) (image : List ℕ) (ok : Accepts C image) (facts : Ce
       let w : Walk C image n tables schedule 0 (fromReset s) = walk n schedule (sc .bytes) 0 (omega arith) (fromReset s) (reset-kept s h) in
       let d = walk-run C image n tables schedule 0 (fromReset s) w in
       let z : 0 + n ≡ n = omega arith in
-      record { steps = rw (size, sc .whole) (d .0 ∙ z); stop = rw (size, sc .whole) (d .1); walk = w }
+      record { steps = rw (valid, sc .whole) (d .0 ∙ z); stop = rw (valid, sc .whole) (d .1); walk = w }
 
   -- demand 3 for a certificate that breaks no rule
   pub demand-met : Demand3 C image

@@ -21,12 +21,14 @@ use Rattle.action.specs.declared.Operand.{Operand}
 use Rattle.action.specs.declared.Operand.the-variants.{Register, Indirect, Immediate}
 use Rattle.action.specs.declared.Action.{Action}
 use Rattle.action.specs.Action.{actionOf}
+use Rattle.semantics.specs.declared.Configuration.{Configuration}
 use Rattle.semantics.specs.declared.Mode.{Mode}
 use Rattle.semantics.specs.declared.Mode.the-variants.{Running, Idle, Stopped}
 use Rattle.semantics.specs.declared.State.{State}
+use Rattle.semantics.specs.declared.Stepped.{Stepped}
 use Rattle.semantics.specs.Operands.{placeOf, lowered, wordAt, spOf}
 use Rattle.semantics.specs.Execute.{codeAddress}
-use Rattle.semantics.specs.Step.{requested, entryDue, entryCost, behind, actedOf, stepOf}
+use Rattle.semantics.specs.Step.{requested, entryDue, behind, actedOf, stepOf}
 use Rattle.semantics.specs.Run.{recordAt, runOf}
 use Rattle.semantics.specs.Reset.{IsReset}
 use Rattle.certificate.specs.Layout.{Certificate}
@@ -170,22 +172,15 @@ pub record Schedule (schedule : List ℕ) : Type 0 where
   pub whole : length schedule % recordLength ≡ 0
   pub bytes : (i : ℕ) → getD schedule i 0 < 256
 
-module _ (image : List ℕ) where
-  -- the cycles of the instruction at the program counter
-  abbrev pub costHere : State → ℕ
-  costHere s = cyclesOf (getD image (s .pc .0) 0)
-
-  -- the open routines with what the step costs, before one closes: an entry opens 2 with the address it pushes and its own cost
-  abbrev pub spent : Event → State → Open → Open
-  spent entered s o = opening (record { routine = 2; returnTo = s .pc .0; cycles = entryCost; opener = byInterrupt }) o
-  spent waited s o = o
-  spent (executed act next) s o = charge (costHere s) o
-
-  -- the state behind the act of a step, before it settles: where the step goes, whom CALL opens and SP are read there
-  abbrev pub actedState : Monitored → List ℕ → State
-  actedState m rec = actedOf image (m .state) rec .state
+-- the cycles of the instruction at the program counter
+abbrev pub costHere : List ℕ → State → ℕ
+costHere image s = cyclesOf (getD image (s .pc .0) 0)
 
 module _ (C : Certificate) where
+  -- demand 3 speaks of machines that got the certificate's number of cycles for an entry (request 03)
+  abbrev pub configurationOf : Configuration
+  configurationOf = record { «entry_cost» = C .entryCost }
+
   -- CALL opens the routine that its target's entry names, with the address behind CALL and 0 cycles; RET or IRET closes the innermost
   abbrev pub transferred : Transfer → RomAddr → State → Open → Open
   transferred stays next s′ o = o
@@ -204,15 +199,29 @@ module _ (C : Certificate) where
   loadedBy (executed act next) b = loadsTop (C .top) act || b
 
 module _ (C : Certificate) (image : List ℕ) where
+  -- the open routines with what the step costs, before one closes: an entry opens 2 with the address it pushes and its own cost
+  abbrev pub spent : Event → State → Open → Open
+  spent entered s o = opening (record { routine = 2; returnTo = s .pc .0; cycles = C .entryCost; opener = byInterrupt }) o
+  spent waited s o = o
+  spent (executed act next) s o = charge (costHere image s) o
+
+  -- the step that a record makes
+  abbrev pub stepped : Monitored → List ℕ → Stepped
+  stepped m rec = stepOf (configurationOf C) image (m .state) rec
+
+  -- the state behind the act of a step, before it settles: where the step goes, whom CALL opens and SP are read there
+  abbrev pub actedState : Monitored → List ℕ → State
+  actedState m rec = actedOf (configurationOf C) image (m .state) rec .state
+
   -- a step that is not stopped, with its act to a, and settled in s′; a stopped step leaves all as it was
   abbrev pub afterStep : ℕ → Event → Monitored → State → State → Monitored
   afterStep zero e m a s′ =
-      record { state = s′; frames = moved C e a (spent image e (m .state) (m .frames)); loaded = loadedBy C e (m .loaded) }
+      record { state = s′; frames = moved C e a (spent e (m .state) (m .frames)); loaded = loadedBy C e (m .loaded) }
   afterStep (suc n) e m a s′ = m
 
   unfoldable pub monitorStep : Monitored → List ℕ → Monitored
   monitorStep m rec =
-      afterStep (stepOf image (m .state) rec .stop) (eventOf image (m .state) rec) m (actedState image m rec) (stepOf image (m .state) rec .state)
+      afterStep (stepped m rec .stop) (eventOf image (m .state) rec) m (actedState m rec) (stepped m rec .state)
 
 -- What each step must show --
 
@@ -272,13 +281,13 @@ module _ (C : Certificate) (image : List ℕ) where
 
   -- one step: it does not stop; its event is right; SP, once loaded, lies between floor and top; cycles are within bounds
   pub record StepRight (tables : ℕ → ℕ) (m : Monitored) (rec : List ℕ) : Type 0 where
-    pub goes : stepOf image (m .state) rec .stop ≡ 0
-    pub event : EventRight tables m rec (eventOf image (m .state) rec) (actedState image m rec .pc .0)
+    pub goes : stepped C image m rec .stop ≡ 0
+    pub event : EventRight tables m rec (eventOf image (m .state) rec) (actedState C image m rec .pc .0)
     pub stack :
         loadedBy C (eventOf image (m .state) rec) (m .loaded) ≡ true
-        → (C .floor ≤ spOf (actedState image m rec .regs)) × (spOf (actedState image m rec .regs) ≤ C .top)
+        → (C .floor ≤ spOf (actedState C image m rec .regs)) × (spOf (actedState C image m rec .regs) ≤ C .top)
     pub within :
-        Within C (spent image (eventOf image (m .state) rec) (m .state) (m .frames) .inner ∷ spent image (eventOf image (m .state) rec) (m .state) (m .frames) .outer)
+        Within C (spent C image (eventOf image (m .state) rec) (m .state) (m .frames) .inner ∷ spent C image (eventOf image (m .state) rec) (m .state) (m .frames) .outer)
 
   -- the next k records from record i on
   abbrev pub Walk : ℕ → (ℕ → ℕ) → List ℕ → ℕ → Monitored → Type 0
@@ -288,8 +297,8 @@ module _ (C : Certificate) (image : List ℕ) where
 
   -- the run does every record and no step stops, and every step is right
   pub record RunRight (tables : ℕ → ℕ) (s : State) (schedule : List ℕ) : Type 0 where
-    pub steps : runOf image s schedule .steps ≡ length schedule / recordLength
-    pub stop : runOf image s schedule .stop ≡ 0
+    pub steps : runOf (configurationOf C) image s schedule .steps ≡ length schedule / recordLength
+    pub stop : runOf (configurationOf C) image s schedule .stop ≡ 0
     pub walk : Walk (length schedule / recordLength) tables schedule 0 (fromReset s)
 
   -- one table for each ROM address, chosen before the bytes that reset leaves open and before the schedule

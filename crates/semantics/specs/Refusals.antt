@@ -15,13 +15,14 @@ use Rattle.base.specs.ChoiceLaws.{pick-has}
 use Rattle.base.specs.Formula.{eqb-yes}
 use Rattle.base.specs.Outcome.{Outcome}
 use Rattle.base.specs.Outcome.Outcome.{value, refused}
-use Rattle.base.specs.Lengths.{isImageLength, recordLength}
+use Rattle.base.specs.Lengths.{recordLength}
 use Rattle.isa.specs.declared.FlagSet.{FlagSet}
 use Rattle.isa.specs.declared.Instruction.{Instruction}
 use Rattle.decode.specs.Decode.{decodeAt}
 use Rattle.decode.specs.Refusals.{decode-number}
 use Rattle.action.specs.declared.Action.{Action}
 use Rattle.chip.specs.Registers.{mappedOf, loadOf}
+use Rattle.semantics.specs.declared.Configuration.{Configuration}
 use Rattle.semantics.specs.declared.Mode.{Mode}
 use Rattle.semantics.specs.declared.Mode.the-variants.{Running, Idle, Stopped}
 use Rattle.semantics.specs.declared.Next.{Next}
@@ -31,7 +32,7 @@ use Rattle.semantics.specs.declared.Ran.{Ran}
 use Rattle.semantics.specs.Operands.{placeOf, fetchOf, withFlags, lowered, raised, storeTop, pushOf, pushAddress, wordAt, wordMapped, spOf, flagsOf}
 use Rattle.semantics.specs.Execute.{codeAddress, Executed, goesOn, inRom, leaves, binaryOf, modifyOf, loadInto, pushOperand, popOperand, loadCodeOf, loadCodeStepOf}
 use Rattle.semantics.specs.Execute.{jumpOf, jumpPairOf, callOf, callPairOf, returnOf, interruptReturnOf, carryOf, stopOf, executeOf}
-use Rattle.semantics.specs.Step.{Acted, entryDue, finishOf, enterOf, entryCost, afterDecode, instructionAct, modeAct, actAfterRequests, requested, actedOf, settled, stepOf}
+use Rattle.semantics.specs.Step.{Acted, entryDue, finishOf, enterOf, entryCost, afterDecode, instructionAct, modeAct, actAfterRequests, requested, actedOf, settled, validMachine, stepOf}
 use Rattle.semantics.specs.Run.{ran, recordAt, runFrom, runOf}
 
 -- 0, or a number by which an action is refused
@@ -129,10 +130,10 @@ module _ (s : State) where
   mode-stops Idle image regs rec = record { number = inl refl; unchanged = λ ne. absurd (ne refl) }
   mode-stops Stopped image regs rec = record { number = inl refl; unchanged = λ ne. absurd (ne refl) }
 
-  act-stops : (b : Bool) (image regs rec : List ℕ) → ActStops (actAfterRequests b image s regs rec)
+  act-stops : (b : Bool) (K : Configuration) (image regs rec : List ℕ) → ActStops (actAfterRequests b K image s regs rec)
   unfolding actAfterRequests
-  act-stops true image regs rec = finish-stops _ false entryCost (enter-ends image regs (s .pc))
-  act-stops false image regs rec = mode-stops (s .mode) image regs rec
+  act-stops true K image regs rec = finish-stops _ false (entryCost K) (enter-ends image regs (s .pc))
+  act-stops false K image regs rec = mode-stops (s .mode) image regs rec
 
   -- what settles keeps the number, and a refused act's state
   settled-stops : (a : Acted) → ActStops a → Stops s (settled s a .state) (settled s a .stop)
@@ -143,66 +144,66 @@ module _ (s : State) where
   unfolding settled
   settled-not-seven a h = not-seven (h .number)
 
-  -- 7 is for lengths alone
-  pub step-not-seven : (image rec : List ℕ) → (isImageLength (length image) && eqb (length rec) recordLength) ≡ true → stepOf image s rec .stop ≢ 7
+  -- 7 is for the configuration and for lengths alone
+  pub step-not-seven : (K : Configuration) (image rec : List ℕ) → (validMachine K image && eqb (length rec) recordLength) ≡ true → stepOf K image s rec .stop ≢ 7
   unfolding stepOf actedOf
-  step-not-seven image rec e = rw e (settled-not-seven _ (act-stops (entryDue (requested s rec) (s .mode)) image (requested s rec) rec))
+  step-not-seven K image rec e = rw e (settled-not-seven _ (act-stops (entryDue (requested s rec) (s .mode)) K image (requested s rec) rec))
 
-  pub step-stops : (image rec : List ℕ) → Stops s (stepOf image s rec .state) (stepOf image s rec .stop)
+  pub step-stops : (K : Configuration) (image rec : List ℕ) → Stops s (stepOf K image s rec .state) (stepOf K image s rec .stop)
   unfolding stepOf actedOf
-  step-stops image rec =
-      pick-has (λ (r : Stepped). Stops s (r .state) (r .stop)) (isImageLength (length image) && eqb (length rec) recordLength) _ _
-      (λ _. settled-stops _ (act-stops (entryDue (requested s rec) (s .mode)) image (requested s rec) rec))
+  step-stops K image rec =
+      pick-has (λ (r : Stepped). Stops s (r .state) (r .stop)) (validMachine K image && eqb (length rec) recordLength) _ _
+      (λ _. settled-stops _ (act-stops (entryDue (requested s rec) (s .mode)) K image (requested s rec) rec))
       (λ _. record { number = inr (inl refl); unchanged = λ _. refl })
 
-run-from-number : (k : ℕ) (image schedule : List ℕ) (i : ℕ) (s : State) → StepNumber (runFrom k image schedule i s .stop)
+run-from-number : (k : ℕ) (K : Configuration) (image schedule : List ℕ) (i : ℕ) (s : State) → StepNumber (runFrom k K image schedule i s .stop)
 unfolding runFrom
-run-from-number zero image schedule i s = inl refl
-run-from-number (suc k) image schedule i s = on (eqb (r .stop) 0) (run-from-number k image schedule (i + 1) (r .state))
+run-from-number zero K image schedule i s = inl refl
+run-from-number (suc k) K image schedule i s = on (eqb (r .stop) 0) (run-from-number k K image schedule (i + 1) (r .state))
   where
     r : Stepped
-    r = stepOf image s (recordAt schedule i)
+    r = stepOf K image s (recordAt schedule i)
 
-    on : (b : Bool) → StepNumber (runFrom k image schedule (i + 1) (r .state) .stop)
-        → StepNumber ((elim b as (λ _. Ran) [ true ↦ runFrom k image schedule (i + 1) (r .state) | false ↦ ran (r .state) i (r .stop) ]) .stop)
+    on : (b : Bool) → StepNumber (runFrom k K image schedule (i + 1) (r .state) .stop)
+        → StepNumber ((elim b as (λ _. Ran) [ true ↦ runFrom k K image schedule (i + 1) (r .state) | false ↦ ran (r .state) i (r .stop) ]) .stop)
     on true rest = rest
-    on false rest = step-stops s image (recordAt schedule i) .number
+    on false rest = step-stops s K image (recordAt schedule i) .number
 
-pub run-number : (image schedule : List ℕ) (s : State) → StepNumber (runOf image s schedule .stop)
+pub run-number : (K : Configuration) (image schedule : List ℕ) (s : State) → StepNumber (runOf K image s schedule .stop)
 unfolding runOf
-run-number image schedule s =
-    pick-has (λ (r : Ran). StepNumber (r .stop)) (isImageLength (length image) && eqb (length schedule % recordLength) 0) _ _
-    (λ _. run-from-number (length schedule / recordLength) image schedule 0 s) (λ _. inr (inl refl))
+run-number K image schedule s =
+    pick-has (λ (r : Ran). StepNumber (r .stop)) (validMachine K image && eqb (length schedule % recordLength) 0) _ _
+    (λ _. run-from-number (length schedule / recordLength) K image schedule 0 s) (λ _. inr (inl refl))
 
--- a run over the records that a schedule has, on an image of the right length
-run-from-not-seven : (k : ℕ) (image schedule : List ℕ) (i : ℕ) (s : State) → isImageLength (length image) ≡ true → i + k ≤ length schedule / recordLength
-    → runFrom k image schedule i s .stop ≢ 7
+-- a run over the records that a schedule has, on what is valid
+run-from-not-seven : (k : ℕ) (K : Configuration) (image schedule : List ℕ) (i : ℕ) (s : State) → validMachine K image ≡ true → i + k ≤ length schedule / recordLength
+    → runFrom k K image schedule i s .stop ≢ 7
 unfolding runFrom
-run-from-not-seven zero image schedule i s e h = omega arith
-run-from-not-seven (suc k) image schedule i s e h =
-    on (eqb (r .stop) 0) (run-from-not-seven k image schedule (i + 1) (r .state) e (omega (arith, h)))
+run-from-not-seven zero K image schedule i s e h = omega arith
+run-from-not-seven (suc k) K image schedule i s e h =
+    on (eqb (r .stop) 0) (run-from-not-seven k K image schedule (i + 1) (r .state) e (omega (arith, h)))
   where
     r : Stepped
-    r = stepOf image s (recordAt schedule i)
+    r = stepOf K image s (recordAt schedule i)
 
     whole : length (recordAt schedule i) ≡ recordLength
     whole = simp (length-take, length-drop) (omega (arith, h))
 
-    on : (b : Bool) → runFrom k image schedule (i + 1) (r .state) .stop ≢ 7
-        → (elim b as (λ _. Ran) [ true ↦ runFrom k image schedule (i + 1) (r .state) | false ↦ ran (r .state) i (r .stop) ]) .stop ≢ 7
+    on : (b : Bool) → runFrom k K image schedule (i + 1) (r .state) .stop ≢ 7
+        → (elim b as (λ _. Ran) [ true ↦ runFrom k K image schedule (i + 1) (r .state) | false ↦ ran (r .state) i (r .stop) ]) .stop ≢ 7
     on true rest = rest
-    on false rest = step-not-seven s image (recordAt schedule i) (rw (e, eqb-yes whole))
+    on false rest = step-not-seven s K image (recordAt schedule i) (rw (e, eqb-yes whole))
 
--- so a run is refused by 7 only where a length is wrong
-pub run-seven : (image schedule : List ℕ) (s : State) → runOf image s schedule .stop ≡ 7
-    → (isImageLength (length image) && eqb (length schedule % recordLength) 0) ≡ false
+-- so a run is refused by 7 only where the configuration or a length is wrong
+pub run-seven : (K : Configuration) (image schedule : List ℕ) (s : State) → runOf K image s schedule .stop ≡ 7
+    → (validMachine K image && eqb (length schedule % recordLength) 0) ≡ false
 unfolding runOf
-run-seven image schedule s = on (isImageLength (length image)) (eqb (length schedule % recordLength) 0) refl
+run-seven K image schedule s = on (validMachine K image) (eqb (length schedule % recordLength) 0) refl
   where
     n : ℕ
     n = length schedule / recordLength
 
-    on : (a b : Bool) → isImageLength (length image) ≡ a → (pick (a && b) (runFrom n image schedule 0 s) (ran s 0 7)) .stop ≡ 7 → (a && b) ≡ false
-    on true true e h = absurd (run-from-not-seven n image schedule 0 s e (omega arith) h)
+    on : (a b : Bool) → validMachine K image ≡ a → (pick (a && b) (runFrom n K image schedule 0 s) (ran s 0 7)) .stop ≡ 7 → (a && b) ≡ false
+    on true true e h = absurd (run-from-not-seven n K image schedule 0 s e (omega arith) h)
     on true false e h = refl
     on false b e h = refl

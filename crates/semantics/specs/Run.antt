@@ -6,10 +6,11 @@ use mathlib.Core.List.{List}
 use lib.ListN.{length, take, drop}
 use lib.Dec.{eqb}
 use Rattle.base.specs.Choice.{pick}
-use Rattle.base.specs.Lengths.{isImageLength, recordLength}
+use Rattle.base.specs.Lengths.{recordLength}
+use Rattle.semantics.specs.declared.Configuration.{Configuration}
 use Rattle.semantics.specs.declared.State.{State}
 use Rattle.semantics.specs.declared.Ran.{Ran}
-use Rattle.semantics.specs.Step.{stepOf}
+use Rattle.semantics.specs.Step.{validMachine, stepOf}
 
 abbrev pub ran : State → ℕ → ℕ → Ran
 ran s steps stop = record { state = s; steps = steps; stop = stop }
@@ -19,15 +20,15 @@ abbrev pub recordAt : List ℕ → ℕ → List ℕ
 recordAt schedule i = take recordLength (drop (i * recordLength) schedule)
 
 -- the next k records from record i on
-unfoldable pub runFrom : ℕ → List ℕ → List ℕ → ℕ → State → Ran
-runFrom zero image schedule i s = ran s i 0
-runFrom (suc k) image schedule i s =
-    let r = stepOf image s (recordAt schedule i) in
-    elim (eqb (r .stop) 0) [ true ↦ runFrom k image schedule (i + 1) (r .state) | false ↦ ran (r .state) i (r .stop) ]
+unfoldable pub runFrom : ℕ → Configuration → List ℕ → List ℕ → ℕ → State → Ran
+runFrom zero K image schedule i s = ran s i 0
+runFrom (suc k) K image schedule i s =
+    let r = stepOf K image s (recordAt schedule i) in
+    elim (eqb (r .stop) 0) [ true ↦ runFrom k K image schedule (i + 1) (r .state) | false ↦ ran (r .state) i (r .stop) ]
 
--- 7 for an image of another length, and for a schedule that is not whole records; then nothing is done
-unfoldable pub runOf : List ℕ → State → List ℕ → Ran
-runOf image s schedule =
-    pick (isImageLength (length image) && eqb (length schedule % recordLength) 0)
-    (runFrom (length schedule / recordLength) image schedule 0 s)
+-- 7 for an entry's cycles above 63, for an image of another length, and for a schedule that is not whole records; then nothing is done
+unfoldable pub runOf : Configuration → List ℕ → State → List ℕ → Ran
+runOf K image s schedule =
+    pick (validMachine K image && eqb (length schedule % recordLength) 0)
+    (runFrom (length schedule / recordLength) K image schedule 0 s)
     (ran s 0 7)

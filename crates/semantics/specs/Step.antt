@@ -11,13 +11,14 @@ use Rattle.base.specs.Addresses.{romAddr}
 use Rattle.base.specs.Choice.{pick}
 use Rattle.base.specs.Outcome.{Outcome}
 use Rattle.base.specs.Outcome.Outcome.{value, refused}
-use Rattle.base.specs.Lengths.{isImageLength, recordLength}
+use Rattle.base.specs.Lengths.{isEntryCost, isImageLength, recordLength}
 use Rattle.isa.specs.declared.FlagSet.{FlagSet}
 use Rattle.isa.specs.declared.Instruction.{Instruction}
 use Rattle.isa.specs.Map.{cyclesOf}
 use Rattle.decode.specs.Decode.{decodeAt}
 use Rattle.action.specs.Action.{actionOf}
 use Rattle.chip.specs.Interrupts.{interruptsEnabled, setInterruptsOf, pendingAny, pendingEdge, postOf}
+use Rattle.semantics.specs.declared.Configuration.{Configuration}
 use Rattle.semantics.specs.declared.Mode.{Mode}
 use Rattle.semantics.specs.declared.Mode.the-variants.{Running, Idle, Stopped}
 use Rattle.semantics.specs.declared.State.{State}
@@ -64,12 +65,12 @@ finishOf s e retired cost =
     (record { state = movedTo s (e .regs) (e .next .pc) (e .next .mode) cost; stop = 0; retired = retired; elapsed = cost })
     (refusedAct s (e .next .stop))
 
--- the interrupt vector, and the cycles of an entry
+-- the interrupt vector, and the cycles of an entry (request 03)
 abbrev pub vectorOf : List ℕ → ℕ
 vectorOf image = getD image 0 0 * 256 + getD image 1 0
 
-abbrev pub entryCost : ℕ
-entryCost = 0
+abbrev pub entryCost : Configuration → ℕ
+entryCost K = K .«entry_cost»
 
 -- an interrupt entry pushes the program counter, low half first, and FLAGS as it then is; SYM.2 becomes 0; the vector is loaded
 unfoldable pub enterOf : List ℕ → List ℕ → RomAddr → Executed
@@ -106,23 +107,27 @@ modeAct Running image s regs rec = instructionAct image s regs rec
 modeAct Idle image s regs rec = waitingAct s regs idleCycles
 modeAct Stopped image s regs rec = waitingAct s regs 0
 
-unfoldable pub actAfterRequests : Bool → List ℕ → State → List ℕ → List ℕ → Acted
-actAfterRequests true image s regs rec = finishOf s (enterOf image regs (s .pc)) false entryCost
-actAfterRequests false image s regs rec = modeAct (s .mode) image s regs rec
+unfoldable pub actAfterRequests : Bool → Configuration → List ℕ → State → List ℕ → List ℕ → Acted
+actAfterRequests true K image s regs rec = finishOf s (enterOf image regs (s .pc)) false (entryCost K)
+actAfterRequests false K image s regs rec = modeAct (s .mode) image s regs rec
 
 -- the registers after the requests of a record
 abbrev pub requested : State → List ℕ → List ℕ
 requested s rec = postOf (s .regs) (actingRequests (s .mode) (getD rec 0 0))
 
 -- the first half of a step, its act: what its requests, entry, waiting or instruction do
-unfoldable pub actedOf : List ℕ → State → List ℕ → Acted
-actedOf image s rec = actAfterRequests (entryDue (requested s rec) (s .mode)) image s (requested s rec) rec
+unfoldable pub actedOf : Configuration → List ℕ → State → List ℕ → Acted
+actedOf K image s rec = actAfterRequests (entryDue (requested s rec) (s .mode)) K image s (requested s rec) rec
 
 -- the second half: what settles behind the act of a step from s. Nothing does
 unfoldable pub settled : State → Acted → Stepped
 settled s a = record { state = a .state; stop = a .stop }
 
--- one step: 7 for an image or a record of another length
-unfoldable pub stepOf : List ℕ → State → List ℕ → Stepped
-stepOf image s rec =
-    pick (isImageLength (length image) && eqb (length rec) recordLength) (settled s (actedOf image s rec)) (refuse s 7)
+-- what a machine is given: an image, and the cycles of an entry, 0 to 63 (request 03)
+abbrev pub validMachine : Configuration → List ℕ → Bool
+validMachine K image = isEntryCost (entryCost K) && isImageLength (length image)
+
+-- one step: 7 for an entry's cycles above 63, and for an image or a record of another length
+unfoldable pub stepOf : Configuration → List ℕ → State → List ℕ → Stepped
+stepOf K image s rec =
+    pick (validMachine K image && eqb (length rec) recordLength) (settled s (actedOf K image s rec)) (refuse s 7)

@@ -32,6 +32,11 @@ pub struct Ran {
     pub stop: u8,
 }
 
+// What a machine is given beside its image: the cycles of an interrupt entry.
+pub struct Configuration {
+    pub entry_cost: u8,
+}
+
 // Where an operand is, and whether every register on the way is mapped.
 pub struct Place {
     pub addr: RegAddr,

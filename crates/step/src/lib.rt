@@ -14,6 +14,7 @@ use chip::Registers;
 use entry::Core;
 use entry::Ended;
 use isa::Decoded;
+use semantics::Configuration;
 use semantics::Mode;
 
 // The instruction that was decoded, on the registers after the requests.
@@ -64,11 +65,18 @@ fn mode_act(mode: Mode, image: &[u8], s: Core, regs: &mut Registers, rec: &Input
 }
 
 // What follows the requests.
-fn after_requests(due: bool, image: &[u8], s: Core, regs: &mut Registers, rec: &Inputs) -> Ended
-    ensures { λ r. ⌜ ((saved : List ℕ) → rebuilt saved (now (regs .exit)) r ≡ actAfterRequests due (now (image .entry)) (stateWith saved s) (now (regs .entry)) (now (rec .entry))) ⌝ }
+fn after_requests(
+    due: bool,
+    configuration: Configuration,
+    image: &[u8],
+    s: Core,
+    regs: &mut Registers,
+    rec: &Inputs,
+) -> Ended
+    ensures { λ r. ⌜ ((saved : List ℕ) → rebuilt saved (now (regs .exit)) r ≡ actAfterRequests due configuration (now (image .entry)) (stateWith saved s) (now (regs .entry)) (now (rec .entry))) ⌝ }
 {
     if due {
-        return entry::enter(image, s, regs);
+        return entry::enter(configuration, image, s, regs);
     }
     let mode = s.mode;
     mode_act(mode, image, s, regs, rec)
@@ -85,15 +93,21 @@ fn put_back(regs: &mut Registers, before: Registers, done: bool)
 }
 
 // The first half: what the requests, the entry, waiting or the instruction do.
-fn act(image: &[u8], s: Core, regs: &mut Registers, rec: &Inputs) -> Ended
-    ensures { λ r. ⌜ acted (now (regs .exit)) r ≡ actedOf (now (image .entry)) (stateWith (now (regs .entry)) s) (now (rec .entry)) ⌝ }
+fn act(
+    configuration: Configuration,
+    image: &[u8],
+    s: Core,
+    regs: &mut Registers,
+    rec: &Inputs,
+) -> Ended
+    ensures { λ r. ⌜ acted (now (regs .exit)) r ≡ actedOf configuration (now (image .entry)) (stateWith (now (regs .entry)) s) (now (rec .entry)) ⌝ }
 {
     let before = *regs;
     let mode = s.mode;
     let requests = rec[0];
     interrupts::post(regs, entry::acting_requests(mode, requests));
     let due = entry::entry_due(regs, mode);
-    let r = after_requests(due, image, s, regs, rec);
+    let r = after_requests(due, configuration, image, s, regs, rec);
     put_back(regs, before, r.stop == 0);
     r
 }
@@ -108,11 +122,17 @@ fn settle(regs: &mut Registers, a: Ended) -> Ended
 }
 
 // A step with its registers in place. It also tells whether an instruction began and completed, and the cycles that elapse for the timers.
-pub fn step_in_place(image: &[u8], s: Core, regs: &mut Registers, rec: &Inputs) -> Ended
-    ensures step { λ r. ⌜ stepped (now (regs .exit)) r ≡ settled (stateWith (now (regs .entry)) s) (actedOf (now (image .entry)) (stateWith (now (regs .entry)) s) (now (rec .entry))) ⌝ }
-    ensures retired { λ r. ⌜ r .retired ≡ actedOf (now (image .entry)) (stateWith (now (regs .entry)) s) (now (rec .entry)) .retired ⌝ }
-    ensures elapsed { λ r. ⌜ r .elapsed ≡ actedOf (now (image .entry)) (stateWith (now (regs .entry)) s) (now (rec .entry)) .elapsed ⌝ }
+pub fn step_in_place(
+    configuration: Configuration,
+    image: &[u8],
+    s: Core,
+    regs: &mut Registers,
+    rec: &Inputs,
+) -> Ended
+    ensures step { λ r. ⌜ stepped (now (regs .exit)) r ≡ settled (stateWith (now (regs .entry)) s) (actedOf configuration (now (image .entry)) (stateWith (now (regs .entry)) s) (now (rec .entry))) ⌝ }
+    ensures retired { λ r. ⌜ r .retired ≡ actedOf configuration (now (image .entry)) (stateWith (now (regs .entry)) s) (now (rec .entry)) .retired ⌝ }
+    ensures elapsed { λ r. ⌜ r .elapsed ≡ actedOf configuration (now (image .entry)) (stateWith (now (regs .entry)) s) (now (rec .entry)) .elapsed ⌝ }
 {
-    let a = act(image, s, regs, rec);
+    let a = act(configuration, image, s, regs, rec);
     settle(regs, a)
 }

@@ -3,6 +3,7 @@ use base::IMAGE_LENGTH;
 use base::RECORD_LENGTH;
 use machine_states::CONFIGURATION_LENGTH;
 use machine_states::STATE_LENGTH;
+use machine_states::configuration_of;
 use machine_states::is_supported_configuration;
 use machine_states::is_supported_state;
 use machine_states::same_state;
@@ -51,7 +52,8 @@ fn step_of(case: &[u8; CASE_LENGTH]) -> Stepped {
     let given = state_of(&bytes[GIVEN..RECORD]);
     let pc = given.pc;
     let image = image_of(&bytes[VECTOR..WINDOW], pc.0, &bytes[WINDOW..GIVEN]);
-    machine::step(&image, given, &bytes[RECORD..NUMBER])
+    let configuration = configuration_of(&bytes[CONFIGURATION..VECTOR]);
+    machine::step(configuration, &image, given, &bytes[RECORD..NUMBER])
 }
 
 // Whether the step of a case leaves what the case expects.

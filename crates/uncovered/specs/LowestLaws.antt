@@ -6,13 +6,13 @@ use mathlib.Core.Logic.{_≢_, ⊎-elim}
 use mathlib.Core.Bool.{Bool, true, false, false≢true, not-eq-not}
 use mathlib.Core.List.{List}
 use native.Mathlib.Omega.{arith}
-use borrow.Author.Tests.{eq-eqb, ne-eqb, le-ltb, eqb-false}
+use borrow.Author.Tests.{ne-eqb, le-ltb}
 use lib.ListN.{length}
 use Rattle.base.specs.Addresses.{romAddr}
 use Rattle.base.specs.Choice.{from}
 use Rattle.base.specs.ChoiceLaws.{pick-has}
 use Rattle.base.specs.Formula.{Formula, neg, eq, test, _&_, decide-true, decide-no, same?, le?}
-use Rattle.base.specs.Lengths.{romLength, certificateLength, isCertificateLength}
+use Rattle.base.specs.Lengths.{romLength, isCertificateLength}
 use Rattle.base.specs.declared.RomAddr.{RomAddr}
 use Rattle.certificate.specs.Layout.{Certificate, certificateOf, certificateFrom, part}
 use Rattle.coverage.specs.Map.{marked}
@@ -87,7 +87,7 @@ module _ (cert m : List ℕ) where
   abbrev Says : Lowest → Type 0
   Says (At a) = LowestStart (certificateOf cert) m (a .0)
   Says AllMarked = (a : ℕ) → certificateOf cert .routine a ≢ 0 → marked m a ≡ true
-  Says (Refused n) = (n ≡ 7) × (length cert ≢ certificateLength)
+  Says (Refused n) = (n ≡ 7) × (isCertificateLength (length cert) ≡ false)
 
   first-says : (r : Lowest) → IsFirst passes romLength 0 r → Says r
   first-says (At a) h =
@@ -100,7 +100,7 @@ module _ (cert m : List ℕ) where
   lowest-says =
       let r = firstOf passes (from romLength 0) in
       pick-has Says (isCertificateLength (length cert)) r (Refused 7) (λ _. first-says r (first-is passes romLength 0))
-      (λ e. (refl, eqb-false (length cert) certificateLength e))
+      (λ e. (refl, e))
 
   pub lowest-at : (a : RomAddr) → lowestOf cert m ≡ At a → LowestStart (certificateOf cert) m (a .0)
   lowest-at a e = subst Says e lowest-says
@@ -108,23 +108,23 @@ module _ (cert m : List ℕ) where
   pub all-marked : lowestOf cert m ≡ AllMarked → (a : ℕ) → certificateOf cert .routine a ≢ 0 → marked m a ≡ true
   all-marked e = subst Says e lowest-says
 
-  pub lowest-refused : (n : ℕ) → lowestOf cert m ≡ Refused n → (n ≡ 7) × (length cert ≢ certificateLength)
+  pub lowest-refused : (n : ℕ) → lowestOf cert m ≡ Refused n → (n ≡ 7) × (isCertificateLength (length cert) ≡ false)
   lowest-refused n e = subst Says e lowest-says
 
   -- which answer there is
-  pub at-lowest : (a : ℕ) → length cert ≡ certificateLength → LowestStart (certificateOf cert) m a → lowestOf cert m ≡ At (romAddr a)
+  pub at-lowest : (a : ℕ) → isCertificateLength (length cert) ≡ true → LowestStart (certificateOf cert) m a → lowestOf cert m ≡ At (romAddr a)
   unfolding lowestOf
   at-lowest a e h =
-      rw (eq-eqb (length cert) certificateLength e)
+      rw e
       (first-at passes romLength 0 a zero-le (start-in-rom cert a (h .start))
       (unmarked-yes (certificateOf cert) m a (h .start) (h .unmarked)) (λ b _ l. unmarked-no (certificateOf cert) m b (h .lower b l)))
 
-  pub marked-all : length cert ≡ certificateLength → ((a : ℕ) → certificateOf cert .routine a ≢ 0 → marked m a ≡ true) → lowestOf cert m ≡ AllMarked
+  pub marked-all : isCertificateLength (length cert) ≡ true → ((a : ℕ) → certificateOf cert .routine a ≢ 0 → marked m a ≡ true) → lowestOf cert m ≡ AllMarked
   unfolding lowestOf
   marked-all e h =
-      rw (eq-eqb (length cert) certificateLength e)
+      rw e
       (first-none passes romLength 0 (λ b _ _. unmarked-no (certificateOf cert) m b (h b)))
 
-  pub refused-length : length cert ≢ certificateLength → lowestOf cert m ≡ Refused 7
+  pub refused-length : isCertificateLength (length cert) ≡ false → lowestOf cert m ≡ Refused 7
   unfolding lowestOf
-  refused-length h = rw (ne-eqb (length cert) certificateLength h)
+  refused-length h = rw h

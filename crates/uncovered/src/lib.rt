@@ -52,7 +52,7 @@ fn others(cert: &[u8], word: usize) -> u64
     bits
 }
 
-// The lowest start of a certificate (`CERTIFICATE_LENGTH`) that the map has not marked. A start is an address whose entry's routine is not 0.
+// The lowest start of a certificate that the map has not marked. A start is an address whose entry's routine is not 0.
 pub fn lowest_unmarked(cert: &[u8], map: &Map) -> Lowest
     ensures { λ r. ⌜ r ≡ lowestOf (now (cert .entry)) (now (map .entry)) ⌝ }
 {

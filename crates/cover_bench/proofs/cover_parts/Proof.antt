@@ -5,10 +5,10 @@ use Rattle.cover_bench.proofs.cover_parts.Statement.{statement}
 use Rattle.cover_bench.proofs.cover_parts.Tie as tie
 
 abbrev Inv-loop : tie.InvT-loop
-Inv-loop image records map₀ parts state₀ left₀ map state left = Unit {0}
+Inv-loop image records map₀ parts configuration state₀ left₀ map state left = Unit {0}
 
 abbrev μ-loop : tie.MeasureT-loop
-μ-loop image records map₀ parts state₀ left₀ map state left = left
+μ-loop image records map₀ parts configuration state₀ left₀ map state left = left
 
 reset-requires : tie.Need-reset-requires Inv-loop μ-loop
 reset-requires c κs = search needs

@@ -14,7 +14,7 @@ run-marking-requires : tie.Need-run-marking-requires
 run-marking-requires c κs = search needs
 
 returns : tie.Need-returns
-returns c = counts-too _ _ _ _ (search needs) (c .before .run-marking .ensures .0)
+returns c = counts-too _ _ _ _ _ (search needs) (c .before .run-marking .ensures .0)
 
 pub run-spec : {M : Type 1} → statement M
 run-spec =

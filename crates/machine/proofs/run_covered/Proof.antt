@@ -22,7 +22,7 @@ unfolding coveredRun
 returns-2 c =
     let b = c .before .before in
     let size = b .before .before .if1 .left in
-    (rw (eq-eqb _ _ size) (b .run-marking .ensures .0), covered _ _ _ _ _ size (c .before .map .given ∙ size) (λ w. c .slice-known2 .given w .fits) (b .run-marking .ensures .1))
+    (rw (eq-eqb _ _ size) (b .run-marking .ensures .0), covered _ _ _ _ _ _ size (c .before .map .given ∙ size) (λ w. c .slice-known2 .given w .fits) (b .run-marking .ensures .1))
 
 pub run-covered-spec : {M : Type 1} → statement M
 run-covered-spec = tie.close (tie.spec returns run-marking-requires same-length returns-2)

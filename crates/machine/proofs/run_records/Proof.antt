@@ -1,7 +1,7 @@
 -- The records done so far and the run from there on make the whole run, and the map has the marks of the steps so far; each return is the
 -- definition's case of the tests before it.
 use borrow.Author.Needs.{needs}
-use Rattle.base.specs.Lengths.{romLength, recordLength}
+use Rattle.base.specs.Lengths.{recordLength}
 use Rattle.entry.specs.InPlace.{stateWith, stepped}
 use Rattle.semantics.specs.Run.{recordAt, runFrom}
 use Rattle.machine.specs.Count.{stateBehind}
@@ -9,9 +9,11 @@ use Rattle.machine.specs.Reached.{Marks, reachedIn}
 use Rattle.machine.specs.ReachedLaws.{marks-none, marks-next}
 use denote.Ref.{now}
 use lib.ListN.{length, take, drop, length-take, length-drop}
+use Rattle.semantics.specs.declared.Configuration.{Configuration}
 use Rattle.semantics.specs.declared.State.{State}
 use Rattle.semantics.specs.declared.Stepped.{Stepped}
-use Rattle.semantics.specs.Step.{actedOf, settled}
+use Rattle.semantics.specs.Step.{actedOf, settled, validMachine}
+use mathlib.Core.Bool.{true}
 use mathlib.Core.List.{List}
 use native.Mathlib.Nat.{sub-zero}
 use native.Mathlib.Omega.{arith}
@@ -22,22 +24,25 @@ use Rattle.machine.proofs.run_records.Statement.{statement}
 use Rattle.machine.proofs.run_records.Tie as tie
 
 abbrev Inv-loop : tie.InvT-loop
-Inv-loop image schedule map₀ count regs₀ core₀ i₀ map regs core i =
+Inv-loop K image schedule map₀ count regs₀ core₀ i₀ map regs core i =
     (i ≤ count)
     × (count ≡ length schedule / recordLength)
-    × (length image ≡ romLength)
-    × (runFrom (count - i) image schedule i (stateWith regs core) ≡ runFrom count image schedule 0 (stateWith regs₀ core₀))
-    × (stateWith regs core ≡ stateBehind i image schedule 0 (stateWith regs₀ core₀))
+    × (validMachine K image ≡ true)
+    × (runFrom (count - i) K image schedule i (stateWith regs core) ≡ runFrom count K image schedule 0 (stateWith regs₀ core₀))
+    × (stateWith regs core ≡ stateBehind i K image schedule 0 (stateWith regs₀ core₀))
     × (length map ≡ length map₀)
-    × Marks map₀ map (reachedIn i image (stateWith regs₀ core₀) schedule)
+    × Marks map₀ map (reachedIn i K image (stateWith regs₀ core₀) schedule)
 
 abbrev μ-loop : tie.MeasureT-loop
-μ-loop image schedule map₀ count regs₀ core₀ i₀ map regs core i = count - i
+μ-loop K image schedule map₀ count regs₀ core₀ i₀ map regs core i = count - i
 
 -- behind the step of record i
 module _ (b : tie.After-step-in-place Inv-loop μ-loop) where
   abbrev loop : tie.At-loop Inv-loop μ-loop
   loop = b .before .before .before .before .before .before .before
+
+  abbrev K : Configuration
+  K = loop .before .before .before .before .before .before .args .configuration
 
   abbrev image : List ℕ
   image = now (loop .before .before .before .before .before .before .args .image)
@@ -49,20 +54,20 @@ module _ (b : tie.After-step-in-place Inv-loop μ-loop) where
   here = stateWith (loop .loop .regs) (loop .loop .core)
 
   abbrev there : Stepped
-  there = stepped (b .step-in-place .last .1 .1 .0) (b .step-in-place .result)
+  there = stepped (b .step-in-place .last .1 .1 .1 .0) (b .step-in-place .result)
 
   within : loop .loop .i < length schedule / recordLength
   within = omega (arith, b .before .before .before .before .before .before .loop-test .taken)
 
-  did : there ≡ settled here (actedOf image here (take (loop .loop .i * recordLength + recordLength - loop .loop .i * recordLength) (drop (loop .loop .i * recordLength) schedule)))
+  did : there ≡ settled here (actedOf K image here (take (loop .loop .i * recordLength + recordLength - loop .loop .i * recordLength) (drop (loop .loop .i * recordLength) schedule)))
   did = b .step-in-place .ensures .0 ∙ simp (b .before .before .before .before .record-bytes .ensures)
 
-  retires : b .step-in-place .result .retired ≡ actedOf image here (recordAt schedule (loop .loop .i)) .retired
+  retires : b .step-in-place .result .retired ≡ actedOf K image here (recordAt schedule (loop .loop .i)) .retired
   retires =
-      let e : b .step-in-place .result .retired ≡ actedOf image here (b .before .before .before .before .record-bytes .result) .retired = b .step-in-place .ensures .1 .0 in
+      let e : b .step-in-place .result .retired ≡ actedOf K image here (b .before .before .before .before .record-bytes .result) .retired = b .step-in-place .ensures .1 .0 in
       e
       ∙ simp (b .before .before .before .before .record-bytes .ensures)
-      (ap (λ (n : ℕ). actedOf image here (take n (drop (loop .loop .i * recordLength) schedule)) .retired) (part-length (loop .loop .i)))
+      (ap (λ (n : ℕ). actedOf K image here (take n (drop (loop .loop .i * recordLength) schedule)) .retired) (part-length (loop .loop .i)))
 
 core-of-requires : tie.Need-core-of-requires Inv-loop μ-loop
 core-of-requires c κs = search needs
@@ -102,7 +107,7 @@ returns : tie.Need-returns Inv-loop μ-loop
 returns c =
     let b = c .before .before .before .before in
     simp (c .state-with .ensures) (
-      sym (stops _ _ _ _ _ (there b) (loop b .loop .inv .2) (loop b .loop .inv .1) (within b) (did b) (c .before .if1 .taken))
+      sym (stops _ _ _ _ _ _ (there b) (loop b .loop .inv .2) (loop b .loop .inv .1) (within b) (did b) (c .before .if1 .taken))
           ∙ (loop b .loop .inv .3 ∙ simp (loop b .before .core-of .ensures)),
       simp (loop b .before .core-of .ensures) at (loop b .loop .inv .6),
     )
@@ -122,11 +127,11 @@ loop-again c =
       omega (arith, within b),
       search needs,
       search needs,
-      sym (goes-on _ _ _ _ _ (there b) (loop b .loop .inv .2) (loop b .loop .inv .1) (within b) (did b) (c .before .before .before .before .if1 .left)) ∙ loop b .loop .inv .3,
-      comes-to _ _ _ _ _ (there b) (loop b .loop .inv .2) (loop b .loop .inv .1) (within b) (did b) _ (loop b .loop .inv .4),
+      sym (goes-on _ _ _ _ _ _ (there b) (loop b .loop .inv .2) (loop b .loop .inv .1) (within b) (did b) (c .before .before .before .before .if1 .left)) ∙ loop b .loop .inv .3,
+      comes-to _ _ _ _ _ _ (there b) (loop b .loop .inv .2) (loop b .loop .inv .1) (within b) (did b) _ (loop b .loop .inv .4),
       c .before .map .given ∙ loop b .loop .inv .5,
       rw (c .before .before .mark-retired .ensures)
-          (marks-next (image b) (schedule b) _ _ _ _ (here b) (loop b .loop .inv .4) (loop b .loop .inv .5) (loop b .loop .inv .6) _ (retires b)),
+          (marks-next (K b) (image b) (schedule b) _ _ _ _ (here b) (loop b .loop .inv .4) (loop b .loop .inv .5) (loop b .loop .inv .6) _ (retires b)),
     )
 
 state-with-requires-2 : tie.Need-state-with-requires-2 Inv-loop μ-loop
@@ -139,7 +144,7 @@ returns-2 : tie.Need-returns-2 Inv-loop μ-loop
 returns-2 c =
     let end : c .before .before .loop .i ≡ length (now (c .before .before .before .before .before .before .before .before .args .schedule)) / recordLength = omega arith in
     simp (c .state-with2 .ensures) (
-      sym (ends _ _ _ _ _ (omega arith)) ∙ c .before .before .loop .inv .3 ∙ simp (c .before .before .before .core-of .ensures),
+      sym (ends _ _ _ _ _ _ (omega arith)) ∙ c .before .before .loop .inv .3 ∙ simp (c .before .before .before .core-of .ensures),
       rw end at (simp (c .before .before .before .core-of .ensures) at (c .before .before .loop .inv .6)),
     )
 

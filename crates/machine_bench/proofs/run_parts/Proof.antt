@@ -6,10 +6,10 @@ use Rattle.machine_bench.proofs.run_parts.Statement.{statement}
 use Rattle.machine_bench.proofs.run_parts.Tie as tie
 
 abbrev Inv-loop : tie.InvT-loop
-Inv-loop image records parts state₀ left₀ state left = Unit {0}
+Inv-loop image records parts configuration state₀ left₀ state left = Unit {0}
 
 abbrev μ-loop : tie.MeasureT-loop
-μ-loop image records parts state₀ left₀ state left = left
+μ-loop image records parts configuration state₀ left₀ state left = left
 
 reset-requires : tie.Need-reset-requires Inv-loop μ-loop
 reset-requires c κs = search needs

@@ -1,4 +1,4 @@
--- The stack's ends, then main's row and the service's, as the definition tests them.
+-- The stack's ends and the entry's cost, then main's row and the service's, as the definition tests them.
 use Rattle.rule20.specs.Parts.{fixedRule}
 use mathlib.Core.Bool.{and-assoc}
 use borrow.Author.Needs.{needs}
@@ -10,6 +10,12 @@ stack-floor-requires c κs = search needs
 
 stack-top-requires : tie.Need-stack-top-requires
 stack-top-requires c κs = search needs
+
+entry-cost-requires : tie.Need-entry-cost-requires
+entry-cost-requires c κs = search needs
+
+is-entry-cost-requires : tie.Need-is-entry-cost-requires
+is-entry-cost-requires c κs = search needs
 
 main-rule-requires : tie.Need-main-rule-requires
 main-rule-requires c κs = search needs
@@ -24,8 +30,10 @@ returns c =
     simp (
       c .service-rule .ensures,
       c .before .main-rule .ensures,
-      b .stack-top .ensures,
-      b .before .stack-floor .ensures,
+      b .is-entry-cost .ensures,
+      b .before .entry-cost .ensures,
+      b .before .before .stack-top .ensures,
+      b .before .before .before .stack-floor .ensures,
       and-assoc,
     )
 
@@ -35,6 +43,8 @@ fixed-rule-spec =
     (tie.spec
     stack-floor-requires
     stack-top-requires
+    entry-cost-requires
+    is-entry-cost-requires
     main-rule-requires
     service-rule-requires
     returns)

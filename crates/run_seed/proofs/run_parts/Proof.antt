@@ -5,10 +5,10 @@ use Rattle.run_seed.proofs.run_parts.Statement.{statement}
 use Rattle.run_seed.proofs.run_parts.Tie as tie
 
 abbrev Inv-loop : tie.InvT-loop
-Inv-loop image seed count map₀ p₀ left₀ map p left = Unit {0}
+Inv-loop configuration image seed count map₀ p₀ left₀ map p left = Unit {0}
 
 abbrev μ-loop : tie.MeasureT-loop
-μ-loop image seed count map₀ p₀ left₀ map p left = left
+μ-loop configuration image seed count map₀ p₀ left₀ map p left = left
 
 reset-requires : tie.Need-reset-requires Inv-loop μ-loop
 reset-requires c κs = search needs

@@ -3,10 +3,11 @@
 use denote.Ref.{now}
 use Prim.Native.Nat.{_*_, _-_, _≤_}
 use mathlib.Core.Path.{_≡_, _∙_, sym}
+use mathlib.Core.Bool.{true}
 use native.Mathlib.Omega.{arith}
-use borrow.Author.Tests.{eqb-true, eqb-false, not-true, not-false}
+use borrow.Author.Tests.{not-true, not-false}
 use lib.ListN.{length}
-use Rattle.base.specs.Lengths.{certificateLength}
+use Rattle.base.specs.Lengths.{isCertificateLength}
 use Rattle.uncovered.specs.LowestLaws.{at-lowest, marked-all, refused-length, start-in-rom}
 use Rattle.uncovered.proofs.Words.{MarkedBelow, LowestBit, clearBit, lowest-bit}
 use borrow.Author.Needs.{needs}
@@ -14,7 +15,7 @@ use Rattle.uncovered.proofs.lowest_unmarked.Statement.{statement}
 use Rattle.uncovered.proofs.lowest_unmarked.Tie as tie
 
 abbrev Inv-loop : tie.InvT-loop
-Inv-loop cert map map' word₀ word = (word ≤ 64) × (length cert ≡ certificateLength) × MarkedBelow cert map (64 * word)
+Inv-loop cert map map' word₀ word = (word ≤ 64) × (isCertificateLength (length cert) ≡ true) × MarkedBelow cert map (64 * word)
 
 abbrev μ-loop : tie.MeasureT-loop
 μ-loop cert map map' word₀ word = 64 - word
@@ -23,13 +24,12 @@ is-certificate-length-requires : tie.Need-is-certificate-length-requires Inv-loo
 is-certificate-length-requires c κs = search needs
 
 returns : tie.Need-returns Inv-loop μ-loop
-returns c =
-    sym (refused-length _ _ (eqb-false _ certificateLength (sym (c .before .is-certificate-length .ensures) ∙ not-true _ (c .if1 .taken))))
+returns c = sym (refused-length _ _ (sym (c .before .is-certificate-length .ensures) ∙ not-true _ (c .if1 .taken)))
 
 loop-holds : tie.Need-loop-holds Inv-loop μ-loop
 loop-holds c = (
   omega arith,
-  eqb-true _ certificateLength (sym (c .before .before .is-certificate-length .ensures) ∙ not-false _ (c .before .if1 .left)),
+  sym (c .before .before .is-certificate-length .ensures) ∙ not-false _ (c .before .if1 .left),
   λ b l. absurd (omega arith),
 )
 

@@ -1,0 +1,30 @@
+-- Request 03: image P where an interrupt entry takes cycles. The service is IRET, 10 cycles.
+-- Assumes nothing.
+use mathlib.Core.Path.{_≡_, refl}
+use mathlib.Core.List.{List, [], _∷_}
+use Prim.Native.Nat.{ℕ}
+use Rattle.base.specs.Addresses.{romAddr}
+use Rattle.certificate.specs.declared.Verdict.the-variants.{Accepted, Refused}
+use Rattle.safety.specs.Verdicts.{verdictOf}
+use Rattle.logger_cases.specs.Program.{imageWith, certificateFor}
+use Rattle.logger_cases.specs.Cases.{on-tables}
+use Rattle.logger_cases.specs.Opened.{opened}
+
+-- the certificate with the cycles of an entry and the service's bound
+abbrev pub costed : ℕ → ℕ → List ℕ
+costed cost bound = certificateFor bound 364 (0xA0 ∷ 0xC0 ∷ cost ∷ [])
+
+-- 20 cycles and IRET's 10
+pub costed-accepted : verdictOf (imageWith 0x7B) (costed 20 30) ≡ Accepted
+unfolding opened
+costed-accepted = on-tables 0x7B 30 364 (0xA0 ∷ 0xC0 ∷ 20 ∷ []) refl Accepted "accepted\n1 0100 2 0\n2 0140 0 30\n3 0120 0 364\n" tt refl refl .0
+
+-- a bound one too small
+pub costed-refused : verdictOf (imageWith 0x7B) (costed 20 29) ≡ Refused 27 (romAddr 0x140)
+unfolding opened
+costed-refused = on-tables 0x7B 29 364 (0xA0 ∷ 0xC0 ∷ 20 ∷ []) refl (Refused 27 (romAddr 0x140)) "refused 27 0140\n" tt refl refl .0
+
+-- the most that an entry may take
+pub greatest-accepted : verdictOf (imageWith 0x7B) (costed 63 73) ≡ Accepted
+unfolding opened
+greatest-accepted = on-tables 0x7B 73 364 (0xA0 ∷ 0xC0 ∷ 63 ∷ []) refl Accepted "accepted\n1 0100 2 0\n2 0140 0 73\n3 0120 0 364\n" tt refl refl .0
