@@ -117,6 +117,15 @@ fn table_examples() {
     );
 }
 
+// An interrupt entry takes 20 cycles: the service's bound covers them, and does not.
+fn entry_cost_examples() {
+    example(b"entry_cost/image.hex", b"entry_cost/cert.hex");
+    example(
+        b"entry_cost_unpaid/image.hex",
+        b"entry_cost_unpaid/cert.hex",
+    );
+}
+
 // An image with one fault, told by its line.
 fn fault(image_name: &[u8]) {
     example(image_name, b"p_cert.hex");
@@ -260,6 +269,7 @@ fn main() {
     field_examples();
     other_examples();
     table_examples();
+    entry_cost_examples();
     example_of_texts();
     loop_idioms();
     nested_idioms();
