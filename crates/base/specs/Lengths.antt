@@ -12,14 +12,14 @@ abbrev pub isImageLength : ℕ → Bool
 isImageLength n = eqb n romLength
 
 -- bytes of a certificate: without the cycles of an entry, which are then 0, and with them, one byte more (request 03)
-abbrev pub shortCertificate : ℕ
-shortCertificate = 58498
+abbrev pub shortCertificateLength : ℕ
+shortCertificateLength = 58498
 
-abbrev pub longCertificate : ℕ
-longCertificate = 58499
+abbrev pub longCertificateLength : ℕ
+longCertificateLength = 58499
 
 abbrev pub isCertificateLength : ℕ → Bool
-isCertificateLength n = eqb n shortCertificate || eqb n longCertificate
+isCertificateLength n = eqb n shortCertificateLength || eqb n longCertificateLength
 
 -- the cycles of an entry are 0 to 63
 abbrev pub greatestEntryCost : ℕ

@@ -33,9 +33,9 @@ pub const IMAGE_LENGTH: usize = 4096;
 pub const ROM_END: u16 = IMAGE_LENGTH as u16;
 
 // The bytes of a certificate without the cycles of an interrupt entry, which are then 0, and with them.
-pub const SHORT_CERTIFICATE: usize = 58498;
+pub const SHORT_CERTIFICATE_LENGTH: usize = 58498;
 
-pub const LONG_CERTIFICATE: usize = 58499;
+pub const LONG_CERTIFICATE_LENGTH: usize = 58499;
 
 // The greatest cycles of an interrupt entry.
 pub const GREATEST_ENTRY_COST: u8 = 63;
@@ -54,7 +54,7 @@ pub fn is_image_length(n: usize) -> bool
 pub fn is_certificate_length(n: usize) -> bool
     ensures { λ r. ⌜ r ≡ isCertificateLength n ⌝ }
 {
-    (n == SHORT_CERTIFICATE) | (n == LONG_CERTIFICATE)
+    (n == SHORT_CERTIFICATE_LENGTH) | (n == LONG_CERTIFICATE_LENGTH)
 }
 
 // Whether an interrupt entry may take n cycles.

@@ -1,10 +1,10 @@
 // Runs the checker on the cases of the file checks.bin, and prints what differs. A case is a byte for the profile and one for the
 // certificate's length; edits of an image of FFH, and of a certificate of 00H; and the answer that it expects.
 ghost use Prim.Native.Nat.{_≤_};
-ghost use Rattle.base.specs.Lengths.{longCertificate};
+ghost use Rattle.base.specs.Lengths.{longCertificateLength};
 use base::IMAGE_LENGTH;
-use base::LONG_CERTIFICATE;
-use base::SHORT_CERTIFICATE;
+use base::LONG_CERTIFICATE_LENGTH;
+use base::SHORT_CERTIFICATE_LENGTH;
 use certificate::Verdict;
 use test_support::Case;
 use test_support::Counts;
@@ -70,12 +70,12 @@ fn is_supported(kind: Kind) -> bool {
 
 // The bytes of a case's certificate.
 fn length_of(kind: Kind) -> usize
-    ensures { λ r. ⌜ r ≤ longCertificate ⌝ }
+    ensures { λ r. ⌜ r ≤ longCertificateLength ⌝ }
 {
     if kind.length == 0 {
-        SHORT_CERTIFICATE
+        SHORT_CERTIFICATE_LENGTH
     } else {
-        LONG_CERTIFICATE
+        LONG_CERTIFICATE_LENGTH
     }
 }
 
@@ -86,7 +86,7 @@ fn same_answer(a: Answer, b: Answer) -> bool {
 // Reads the rest of a case, and compares; one that is cut off differs.
 fn compare(fd: i32, kind: Kind, counts: Counts) -> Case {
     let mut image = [255u8; IMAGE_LENGTH];
-    let mut cert = [0u8; LONG_CERTIFICATE];
+    let mut cert = [0u8; LONG_CERTIFICATE_LENGTH];
     let mut three = [0u8; 3];
     let edited = read_edits(fd, &mut image) & read_edits(fd, &mut cert);
     let whole = (io::read_full(fd, &mut three) == 3) & edited;

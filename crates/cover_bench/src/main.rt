@@ -1,7 +1,7 @@
 // Runs with a coverage map, and summaries, to be timed: `cover_bench WHAT COUNT SEED`. Rows 1 to 3 are those of `machine_bench` with a map, COUNT thousands of
 // records; row 4 is COUNT summaries. A program of its own, since `run` takes other instructions in a program that also has `run_covered`.
 use base::IMAGE_LENGTH;
-use base::LONG_CERTIFICATE;
+use base::LONG_CERTIFICATE_LENGTH;
 use bench_programs::SCHEDULE;
 use bench_programs::program;
 use bench_programs::schedule;
@@ -58,7 +58,7 @@ fn summary(cert: &[u8], map: &Map) -> u64 {
 
 // Summaries of a certificate whose every address is a start. All words of the map but the last are full; the last is another each time.
 fn summaries(count: u64) -> u64 {
-    let cert = [1u8; LONG_CERTIFICATE];
+    let cert = [1u8; LONG_CERTIFICATE_LENGTH];
     let mut map: Map = [u64::MAX; WORDS];
     let mut sum = 0;
     let mut left = count;

@@ -1,7 +1,7 @@
 // Compares `coverage::count` and `uncovered::lowest_unmarked` with the cases of the file `uncovered.bin`, and prints what differs. A case is the marked addresses of a
 // map; edits of a certificate of 00H; and what it expects: how many addresses are marked, and the lowest start that is not. Certificates of other lengths come first.
-use base::LONG_CERTIFICATE;
-use base::SHORT_CERTIFICATE;
+use base::LONG_CERTIFICATE_LENGTH;
+use base::SHORT_CERTIFICATE_LENGTH;
 use coverage::Map;
 use coverage::WORDS;
 use test_support::Case;
@@ -74,7 +74,7 @@ fn tell(whole: bool, expected: Answer, given: Answer) {
 // Reads the rest of a case, whose map has so many marks, and compares; one that is cut off differs.
 fn compare(fd: i32, count: u16, counts: Counts) -> Case {
     let mut map: Map = [0; WORDS];
-    let mut cert = [0u8; SHORT_CERTIFICATE];
+    let mut cert = [0u8; SHORT_CERTIFICATE_LENGTH];
     let mut five = [0u8; 5];
     let marked = map_cases::read_marks(fd, count, &mut map);
     let edited = test_support::read_edits(fd, &mut cert);
@@ -117,9 +117,9 @@ fn number_of(lowest: Lowest) -> u8 {
 
 // Prints the answer to a certificate of so many zeros, at most one too many.
 fn try_length(length: usize) {
-    let cert = [0u8; LONG_CERTIFICATE + 1];
+    let cert = [0u8; LONG_CERTIFICATE_LENGTH + 1];
     let map: Map = [0; WORDS];
-    if length <= LONG_CERTIFICATE + 1 {
+    if length <= LONG_CERTIFICATE_LENGTH + 1 {
         print_number(length as u64);
         print(b": ");
         print_number(number_of(uncovered::lowest_unmarked(&cert[0..length], &map)) as u64);
@@ -129,9 +129,9 @@ fn try_length(length: usize) {
 
 fn main() {
     try_length(0);
-    try_length(SHORT_CERTIFICATE - 1);
-    try_length(SHORT_CERTIFICATE);
-    try_length(LONG_CERTIFICATE);
-    try_length(LONG_CERTIFICATE + 1);
+    try_length(SHORT_CERTIFICATE_LENGTH - 1);
+    try_length(SHORT_CERTIFICATE_LENGTH);
+    try_length(LONG_CERTIFICATE_LENGTH);
+    try_length(LONG_CERTIFICATE_LENGTH + 1);
     run_cases();
 }

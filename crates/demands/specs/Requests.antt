@@ -14,7 +14,7 @@ use Rattle.base.specs.Addresses.{flagsCell, romAddr}
 use Rattle.base.specs.Cells.{Bytes}
 use Rattle.base.specs.Choice.{from, count}
 use Rattle.base.specs.Formula.{Holds, eqb-yes}
-use Rattle.base.specs.Lengths.{romLength, recordLength, shortCertificate, longCertificate, isImageLength, isCertificateLength, greatestEntryCost, isEntryCost}
+use Rattle.base.specs.Lengths.{romLength, recordLength, shortCertificateLength, longCertificateLength, isImageLength, isCertificateLength, isEntryCost}
 use Rattle.base.specs.Outcome.Outcome.{value, refused}
 use Rattle.isa.specs.declared.Flag.{Flag}
 use Rattle.isa.specs.declared.FlagSet.{FlagSet}
@@ -41,7 +41,7 @@ use Rattle.semantics.specs.Refusals.{step-stops}
 use Rattle.coverage.specs.Map.{mapWords, marked, emptyMap, joined, markedCount, setBits}
 use Rattle.coverage.specs.MapLaws.{Words, same-marks, marked-joined, marked-past, set-bits-counted}
 use Rattle.machine.specs.Count.{costOf}
-use Rattle.machine.specs.EntryLaws.{entry-cost, entry-adds, other-step, step-above, run-above, covered-above}
+use Rattle.machine.specs.EntryLaws.{entry-cost, entry-adds, SameButCycles, other-step, only-cycles, step-above, run-above, covered-above}
 use Rattle.machine.specs.Reached.{reached, coveredRun, coveredMap}
 use Rattle.machine.specs.CoveredLaws.{Reaches, mark-stays, completed-marked, no-other-mark, covered-joins, covered-count}
 use Rattle.machine.specs.AppendLaws.{run-in-turn, run-stopped, covered-in-turn, covered-stopped}
@@ -51,7 +51,7 @@ use Rattle.certificate.specs.declared.Flow.the-variants.{Step, Call}
 use Rattle.certificate.specs.declared.Verdict.the-variants as verdict
 use Rattle.certificate.specs.Layout.{Certificate, certificateFrom, certificateOf}
 use Rattle.certificate.specs.Summaries.{range, codeAccess}
-use Rattle.safety.specs.Rules.{noCell, ramEnd, Edge, low, high, worst, codeInRom, changeOf, rule20, edge26, rule26}
+use Rattle.safety.specs.Rules.{noCell, ramEnd, Edge, low, high, worst, codeInRom, changeOf, rule20, edge26, rule26, openingCost}
 use Rattle.safety.specs.Rules.Change.{changed}
 use Rattle.safety.specs.CodeRange.{loadRange}
 use Rattle.safety.specs.CodeRangeLaws.{Reaches as CodeReaches, ReachedByte, SetInRom, set-in-rom, whole-set-in-rom, unclaimed}
@@ -59,9 +59,10 @@ use Rattle.safety.specs.CodeRangeLaws.{loaded-holds, loaded-least, loaded-great
 use Rattle.safety.specs.CodeLoads.{code-of-load, code-of-step, destination-of-load, destination-of-step, pair-of-step}
 use Rattle.safety.specs.Verdicts.{summaryAt, verdictOf, Broken}
 use Rattle.safety.specs.EntryCost as cost
+use Rattle.safety.specs.SmallerCost.{smaller-cost, smaller-cost-safe}
 use Rattle.safety.specs.Formerly as formerly
 use Rattle.safety.specs.Formerly.{verdictFormerly}
-use Rattle.safety.specs.Statement.{Schedule, Open, entered, spent, configurationOf}
+use Rattle.safety.specs.Statement.{Schedule, Open, entered, spent, configurationOf, Demand3}
 use Rattle.flag_names.specs.Stores.{storesFlags}
 use Rattle.flag_names.specs.Kept.{flagsIn, unnamed-kept, iret-named, iret-loads}
 use Rattle.flag_names.specs.Witnesses.{ChangedBy, named-changed}
@@ -113,7 +114,7 @@ line-sum = sums.line-sum
 -- byte above 63; 7 for any other certificate length or a step's or run's number above 63 --
 
 -- one byte more, at E482H, is the cycles of an entry
-pub byte-is-the-cost : (cert : List ℕ) (x : ℕ) → length cert ≡ shortCertificate → certificateOf (cert ++ (x ∷ [])) .entryCost ≡ x
+pub byte-is-the-cost : (cert : List ℕ) (x : ℕ) → length cert ≡ shortCertificateLength → certificateOf (cert ++ (x ∷ [])) .entryCost ≡ x
 unfolding certificateFrom
 byte-is-the-cost cert x h = ap (λ (C : Certificate). C .entryCost) (cost.byte-behind cert x h)
 
@@ -133,9 +134,14 @@ pub refused-entry-costs-nothing : (K : Configuration) (image : List ℕ) (s : St
 refused-entry-costs-nothing K image s rec = step-stops s K image rec .unchanged
 
 -- a step that is no entry is the same whatever an entry costs
-pub other-steps-same : (K : Configuration) (image : List ℕ) (s : State) (rec : List ℕ) (K′ : Configuration) → validMachine K image ≡ validMachine K′ image
+pub other-steps-same : (K K′ : Configuration) (image : List ℕ) (s : State) (rec : List ℕ) → validMachine K image ≡ validMachine K′ image
     → entryDue (requested s rec) (s .mode) ≡ false → stepOf K image s rec ≡ stepOf K′ image s rec
 other-steps-same = other-step
+
+-- and of an entry the cycle total alone depends on it: registers, program counter, mode and number do not
+pub only-the-total : (K K′ : Configuration) (image : List ℕ) (s : State) (rec : List ℕ) → validMachine K image ≡ validMachine K′ image
+    → SameButCycles (stepOf K image s rec) (stepOf K′ image s rec)
+only-the-total = only-cycles
 
 -- demand 3 speaks of runs that got the certificate's number: `Demand3` has steps and runs with `configurationOf` alone. There the service opens with that
 -- number, and nobody else is charged
@@ -153,50 +159,64 @@ pub service-bound-covers : (image cert : List ℕ) → verdictOf image cert ≡ 
     → let C = certificateOf cert in C .entryCost + worst C (vectorOf image) ≤ C .bound 2
 service-bound-covers = cost.service-bound-covers
 
+-- no other row has to cover it
+pub other-rows-stay : (C : Certificate) (n : ℕ) → n ≢ 2 → openingCost C n ≡ 0
+other-rows-stay = cost.others-open-free
+
 pub bound-too-small : (image cert : List ℕ) → let C = certificateOf cert in Holds (rule20 C image)
     → (C .entryCost + worst C (vectorOf image) ≤ C .bound 2 → ⊥) → Broken image cert 27 (vectorOf image)
 bound-too-small = cost.bound-too-small
 
 -- 58,498 bytes mean 0, and one byte more that is 0 changes no verdict
-pub short-means-0 : (cert : List ℕ) → length cert ≡ shortCertificate → certificateOf cert .entryCost ≡ 0
+pub short-means-0 : (cert : List ℕ) → length cert ≡ shortCertificateLength → certificateOf cert .entryCost ≡ 0
 short-means-0 = cost.short-means-zero
 
-pub byte-0-same-verdict : (image cert : List ℕ) → length cert ≡ shortCertificate → verdictOf image (cert ++ (0 ∷ [])) ≡ verdictOf image cert
+pub byte-0-same-verdict : (image cert : List ℕ) → length cert ≡ shortCertificateLength → verdictOf image (cert ++ (0 ∷ [])) ≡ verdictOf image cert
 byte-0-same-verdict = cost.zero-byte-same
 
 -- `bridgecheck` reads `cert.hex` into 58,499 bytes; a HEX reader takes a certificate's buffer of either length
-pub certificate-buffer : length blankCertificate ≡ longCertificate
-certificate-buffer = length-filled longCertificate 0
+pub certificate-buffer : length blankCertificate ≡ longCertificateLength
+certificate-buffer = length-filled longCertificateLength 0
 
-pub either-buffer : (bufferLength shortCertificate ≡ true) × (bufferLength longCertificate ≡ true)
+pub either-buffer : (bufferLength shortCertificateLength ≡ true) × (bufferLength longCertificateLength ≡ true)
 either-buffer = (refl, refl)
 
 -- 20 also for a byte above 63; 7 for any other certificate length
 pub byte-above-63 : (image cert : List ℕ) → isImageLength (length image) ≡ true → isCertificateLength (length cert) ≡ true
-    → (certificateOf cert .entryCost ≤ greatestEntryCost → ⊥) → verdictOf image cert ≡ verdict.Refused 20 (romAddr 0)
+    → (certificateOf cert .entryCost ≤ 63 → ⊥) → verdictOf image cert ≡ verdict.Refused 20 (romAddr 0)
 byte-above-63 = cost.cost-above-63
 
 pub other-certificate-length : (image cert : List ℕ) → isCertificateLength (length cert) ≡ false → verdictOf image cert ≡ verdict.Refused 7 (romAddr 0)
 other-certificate-length = cost.other-length
 
 -- 7 for a step's or run's number above 63, whatever the record or schedule, and nothing is done
-pub step-number-above-63 : (K : Configuration) (image : List ℕ) (s : State) → greatestEntryCost < entryCost K → (rec : List ℕ)
+pub step-number-above-63 : (K : Configuration) (image : List ℕ) (s : State) → 63 < entryCost K → (rec : List ℕ)
     → stepOf K image s rec ≡ refuse s 7
 step-number-above-63 = step-above
 
-pub run-number-above-63 : (K : Configuration) (image : List ℕ) (s : State) → greatestEntryCost < entryCost K → (schedule : List ℕ)
+pub run-number-above-63 : (K : Configuration) (image : List ℕ) (s : State) → 63 < entryCost K → (schedule : List ℕ)
     → runOf K image s schedule ≡ ran s 0 7
 run-number-above-63 = run-above
 
-pub covered-number-above-63 : (K : Configuration) (image : List ℕ) (s : State) → greatestEntryCost < entryCost K → (schedule m : List ℕ) → Words m
+pub covered-number-above-63 : (K : Configuration) (image : List ℕ) (s : State) → 63 < entryCost K → (schedule m : List ℕ) → Words m
     → (coveredRun K image s schedule (length m) ≡ ran s 0 7) × (coveredMap K image s schedule m ≡ m)
 covered-number-above-63 = covered-above
 
--- image P with entries of 20 cycles: accepted with the service's bound at 30, refused with 29; with entries of 63 cycles: accepted with 73
+-- a figure that was rounded up does no harm: what is accepted with x cycles of an entry is accepted with fewer, and demand 3 holds of it with fewer
+pub fewer-cycles-accepted : (image cert : List ℕ) (x y : ℕ) → length cert ≡ shortCertificateLength → y ≤ x
+    → verdictOf image (cert ++ (x ∷ [])) ≡ verdict.Accepted → verdictOf image (cert ++ (y ∷ [])) ≡ verdict.Accepted
+fewer-cycles-accepted = smaller-cost
+
+pub fewer-cycles-safe : (image cert : List ℕ) (x y : ℕ) → length cert ≡ shortCertificateLength → y ≤ x
+    → verdictOf image (cert ++ (x ∷ [])) ≡ verdict.Accepted → Bytes image → Bytes (cert ++ (y ∷ [])) → Demand3 (certificateOf (cert ++ (y ∷ []))) image
+fewer-cycles-safe = smaller-cost-safe
+
+-- image P with entries of 20 cycles: accepted with the service's bound at 30, refused with 29; with entries of 63 cycles: accepted with 73; of 64: refused
 pub p-with-entries : (verdictOf (program.imageWith 0x7B) (entering.costed 20 30) ≡ verdict.Accepted)
     × (verdictOf (program.imageWith 0x7B) (entering.costed 20 29) ≡ verdict.Refused 27 (romAddr 0x140))
     × (verdictOf (program.imageWith 0x7B) (entering.costed 63 73) ≡ verdict.Accepted)
-p-with-entries = (entering.costed-accepted, entering.costed-refused, entering.greatest-accepted)
+    × (verdictOf (program.imageWith 0x7B) (entering.costed 64 74) ≡ verdict.Refused 20 (romAddr 0))
+p-with-entries = (entering.costed-accepted, entering.costed-refused, entering.greatest-accepted, entering.above-refused)
 
 -- Request 06. Which code has the bench reached? Testers want a map beside a run: one bit per ROM byte in 64 words of 64 bits, ascending from the first
 -- word's lowest bit, set where an instruction began, and a summary that counts the set bits. The map passed in may hold earlier runs. After a run,

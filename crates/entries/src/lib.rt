@@ -2,7 +2,8 @@
 ghost use mathlib.Core.Path.{_≡_};
 ghost use lib.ListN.{take, drop};
 ghost use Rattle.certificate.specs.Layout.{word, entryPart, cellPart, rowPart, certificateOf};
-ghost use Prim.Native.Nat.{_<_};
+ghost use Prim.Native.Nat.{_+_, _<_, _≤_};
+ghost use Rattle.base.specs.Lengths.{shortCertificateLength};
 ghost use Rattle.entries.specs.Fields.{claimOf, entryFrom, entryOf, cellRowOf, rowOf};
 use base::RegAddr;
 use base::RomAddr;
@@ -103,13 +104,25 @@ pub fn piece(b: &[u8], i: usize, w: usize) -> &[u8]
     &b[i..e]
 }
 
+// The same of bytes that every certificate has. Where the compiler knows that there are so many, the part's length is known too.
+fn part_at(cert: &[u8], i: usize, w: usize) -> &[u8]
+    requires { ⌜ i + w ≤ shortCertificateLength ⌝ }
+    ensures { λ r. ⌜ now r ≡ take w (drop i (now (cert .entry))) ⌝ }
+{
+    if cert.len() < base::SHORT_CERTIFICATE_LENGTH {
+        return piece(cert, i, w);
+    }
+    let e = i + w;
+    &cert[i..e]
+}
+
 // The entry of a ROM address, as that part of the certificate; past the ROM an empty part.
 pub fn entry_part(cert: &[u8], a: RomAddr) -> &[u8]
     ensures part { λ r. ⌜ now r ≡ entryPart (now (cert .entry)) (a .0) ⌝ }
     ensures fields { λ r. ⌜ entryFrom (now r) ≡ entryOf (certificateOf (now (cert .entry))) (a .0) ⌝ }
 {
     if a.0 < base::ROM_END {
-        return piece(cert, ENTRY_LENGTH * a.0 as usize, ENTRY_LENGTH);
+        return part_at(cert, ENTRY_LENGTH * a.0 as usize, ENTRY_LENGTH);
     }
     &cert[0..0]
 }
@@ -118,7 +131,7 @@ pub fn entry_part(cert: &[u8], a: RomAddr) -> &[u8]
 pub fn cell_part(cert: &[u8], x: RegAddr) -> &[u8]
     ensures { λ r. ⌜ now r ≡ cellPart (now (cert .entry)) (x .0) ⌝ }
 {
-    piece(cert, CELLS_AT + CELL_LENGTH * x.0 as usize, CELL_LENGTH)
+    part_at(cert, CELLS_AT + CELL_LENGTH * x.0 as usize, CELL_LENGTH)
 }
 
 // The row of a routine, as that part of the certificate; past the last an empty part.
@@ -126,7 +139,7 @@ pub fn row_part(cert: &[u8], n: u8) -> &[u8]
     ensures { λ r. ⌜ now r ≡ rowPart (now (cert .entry)) n ⌝ }
 {
     if n < ROUTINES {
-        return piece(cert, ROWS_AT + ROW_LENGTH * n as usize, ROW_LENGTH);
+        return part_at(cert, ROWS_AT + ROW_LENGTH * n as usize, ROW_LENGTH);
     }
     &cert[0..0]
 }

@@ -9,7 +9,7 @@ use Rattle.base.specs.Addresses.{romAddr}
 use Rattle.base.specs.Choice.{pick}
 use Rattle.base.specs.Outcome.{Outcome, onOutcome}
 use Rattle.base.specs.Outcome.Outcome.{value, refused}
-use Rattle.base.specs.Lengths.{romLength, longCertificate}
+use Rattle.base.specs.Lengths.{romLength, longCertificateLength}
 use Rattle.hex_text.specs.Text.{textAnswer, textBuffer}
 use Rattle.certificate.specs.declared.Verdict.{Verdict}
 use Rattle.certificate.specs.declared.Verdict.the-variants.{Refused}
@@ -32,14 +32,14 @@ abbrev pub blankImage : List ℕ
 blankImage = filled romLength 0xFF
 
 abbrev pub blankCertificate : List ℕ
-blankCertificate = filled longCertificate 0
+blankCertificate = filled longCertificateLength 0
 
 -- what `bridgecheck` prints of an image text and a certificate text
 unfoldable pub printed : List ℕ → List ℕ → List ℕ
 printed image certificate =
     let cert = textBuffer certificate blankCertificate in
     reportText
-    (judgement (textAnswer image romLength) (textAnswer certificate longCertificate) (verdictOf (textBuffer image blankImage) cert))
+    (judgement (textAnswer image romLength) (textAnswer certificate longCertificateLength) (verdictOf (textBuffer image blankImage) cert))
     (certificateOf cert)
 
 -- the answer to two texts: the length of what is printed; 7: too short a buffer

@@ -7,7 +7,7 @@ use mathlib.Core.List.{List}
 use lib.ListN.{length, length-replicate}
 use Rattle.base.specs.Outcome.{Outcome}
 use Rattle.base.specs.Outcome.Outcome.{value, refused}
-use Rattle.base.specs.Lengths.{romLength, longCertificate, isCertificateLength}
+use Rattle.base.specs.Lengths.{romLength, longCertificateLength, isCertificateLength}
 use Rattle.hex_text.specs.Text.{textAnswer, textBuffer}
 use Rattle.hex_text.specs.Stream.{Leaves}
 use Rattle.hex_text.specs.StreamTheorems.{leaves-same}
@@ -28,7 +28,7 @@ unfolding printed
 printed-length s t =
     let cert = textBuffer t blankCertificate in
     report-length
-    (judgement (textAnswer s romLength) (textAnswer t longCertificate) (verdictOf (textBuffer s blankImage) cert))
+    (judgement (textAnswer s romLength) (textAnswer t longCertificateLength) (verdictOf (textBuffer s blankImage) cert))
     (certificateOf cert)
 
 -- a text was read into a buffer; what a refused one left there does not count
@@ -49,7 +49,7 @@ same-text (value u) (refused k) image cert image₁ cert₁ p q = refl
 same-text (refused n) (value v) image cert image₁ cert₁ p q = refl
 same-text (refused n) (refused k) image cert image₁ cert₁ p q = refl
 
-judged-text : (i c : Outcome (Unit {0})) (s t image cert : List ℕ) → i ≡ textAnswer s romLength → c ≡ textAnswer t longCertificate
+judged-text : (i c : Outcome (Unit {0})) (s t image cert : List ℕ) → i ≡ textAnswer s romLength → c ≡ textAnswer t longCertificateLength
     → Leaves i (textBuffer s blankImage) image → Leaves c (textBuffer t blankCertificate) cert
     → reportText (judgement i c (verdictOf image cert)) (certificateOf cert) ≡ printed s t
 unfolding printed
@@ -63,6 +63,6 @@ pub judged : {s t : List ℕ} {i c : Outcome (Unit {0})} {image cert : List ℕ}
 unfolding reportAnswer reportBuffer printedAnswer printedBuffer
 judged {s} {t} {i} {c} {image} {cert} {verdict} out p q n v =
     let a : i ≡ textAnswer s romLength = rw (length-filled romLength 0xFF) at (p .answers) in
-    let b : c ≡ textAnswer t longCertificate = rw (length-filled longCertificate 0) at (q .answers) in
-    let k : isCertificateLength (length cert) ≡ true = rw (n ∙ length-filled longCertificate 0) in
+    let b : c ≡ textAnswer t longCertificateLength = rw (length-filled longCertificateLength 0) at (q .answers) in
+    let k : isCertificateLength (length cert) ≡ true = rw (n ∙ length-filled longCertificateLength 0) in
     rw (v, k, judged-text i c s t image cert a b (p .leaves) (q .leaves)) (refl, refl)

@@ -17,10 +17,10 @@ pub fn blank_image() -> [u8; base::IMAGE_LENGTH]
     [0xFF; base::IMAGE_LENGTH]
 }
 
-pub fn blank_certificate() -> [u8; base::LONG_CERTIFICATE]
+pub fn blank_certificate() -> [u8; base::LONG_CERTIFICATE_LENGTH]
     ensures { λ r. ⌜ r ≡ blankCertificate ⌝ }
 {
-    [0; base::LONG_CERTIFICATE]
+    [0; base::LONG_CERTIFICATE_LENGTH]
 }
 
 // A refused image file decides, then a refused certificate file, then the checker's verdict.

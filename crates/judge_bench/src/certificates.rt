@@ -1,6 +1,6 @@
 // Checks of a certificate.
 use base::IMAGE_LENGTH;
-use base::LONG_CERTIFICATE;
+use base::LONG_CERTIFICATE_LENGTH;
 use certificate::Verdict;
 use test_support::print;
 use test_support::print_hex;
@@ -29,7 +29,7 @@ fn put_times(bytes: &mut [u8], at: usize, part: &[u8], times: usize) {
 }
 
 // Main and service. LD SP,#C0H; CALL 0120H; JR to CALL. IRET. Entries of 0100H, 0103H, 0106H and 0110H, two routines, and the stack, A0H to BFH.
-fn put_main(image: &mut [u8; IMAGE_LENGTH], cert: &mut [u8; LONG_CERTIFICATE]) {
+fn put_main(image: &mut [u8; IMAGE_LENGTH], cert: &mut [u8; LONG_CERTIFICATE_LENGTH]) {
     load(
         image,
         b":020000000110ED\n\
@@ -51,7 +51,7 @@ fn put_main(image: &mut [u8; IMAGE_LENGTH], cert: &mut [u8; LONG_CERTIFICATE]) {
 
 // Routine 3 around its groups. CLR R2; CLR R4; CP R4,#FEH. RET. Entries of 0120H, 0122H, 0124H and 0CDFH, the cells R2, R3 and R4, of class 1 and
 // writer limit 63, and the routine.
-fn put_routine(image: &mut [u8; IMAGE_LENGTH], cert: &mut [u8; LONG_CERTIFICATE]) {
+fn put_routine(image: &mut [u8; IMAGE_LENGTH], cert: &mut [u8; LONG_CERTIFICATE_LENGTH]) {
     load(
         image,
         b":07012000B0C2B0C4A6C4FE8A\n\
@@ -72,7 +72,7 @@ fn put_routine(image: &mut [u8; IMAGE_LENGTH], cert: &mut [u8; LONG_CERTIFICATE]
 
 // 500 groups of LD R3,@R2; LD @R2,R3; JR UGT,+0, whose two edges go on alike. In the entries R4 is claimed 0 to 255 and compared with 254, R2 is
 // claimed 0 to 9FH. Table 1 is 00H to 9FH, of class 1 and writer limit 63.
-fn put_groups(image: &mut [u8; IMAGE_LENGTH], cert: &mut [u8; LONG_CERTIFICATE]) {
+fn put_groups(image: &mut [u8; IMAGE_LENGTH], cert: &mut [u8; LONG_CERTIFICATE_LENGTH]) {
     put_times(image, 0x127, b"\xC7\x32\xD7\x23\xBB\x00", 500);
     put_times(
         cert,
@@ -83,7 +83,7 @@ fn put_groups(image: &mut [u8; IMAGE_LENGTH], cert: &mut [u8; LONG_CERTIFICATE])
     put_times(cert, CELLS, b"\x01\x3F\x01", 160);
 }
 
-fn put_bound(cert: &mut [u8; LONG_CERTIFICATE], k: usize, n: u16) {
+fn put_bound(cert: &mut [u8; LONG_CERTIFICATE_LENGTH], k: usize, n: u16) {
     put(
         cert,
         GROUPS + 2 + 28 * (k % 1500),
@@ -92,7 +92,7 @@ fn put_bound(cert: &mut [u8; LONG_CERTIFICATE], k: usize, n: u16) {
 }
 
 // The bounds in the groups: their instructions cost 4, 4 and 6, RET behind them 8.
-fn put_bounds(cert: &mut [u8; LONG_CERTIFICATE]) {
+fn put_bounds(cert: &mut [u8; LONG_CERTIFICATE_LENGTH]) {
     let mut k: u16 = 0;
     while k < 1500 {
         put_bound(cert, k as usize, 8 + 14 * (500 - k / 3) - 4 * (k % 3));
@@ -102,7 +102,7 @@ fn put_bounds(cert: &mut [u8; LONG_CERTIFICATE]) {
 
 // JP, where the full program has CALL. CLR R2; 1,267 times LDC R4,@RR2 and NOP; JP to CLR. In their entries R2 is claimed 0 to 0FH and its low half, R3,
 // is not, so that each LDC reaches all of ROM; R4 is claimed 0 to 255. Entries of 0120H and 0FFBH, and the cells R2 and R4, of class 1 and writer limit 1.
-fn put_loads(image: &mut [u8; IMAGE_LENGTH], cert: &mut [u8; LONG_CERTIFICATE]) {
+fn put_loads(image: &mut [u8; IMAGE_LENGTH], cert: &mut [u8; LONG_CERTIFICATE_LENGTH]) {
     load(
         image,
         b":010103008D6E\n\
@@ -132,7 +132,11 @@ fn put_loop(image: &mut [u8; IMAGE_LENGTH]) {
     put(image, 0x103, b"\x8B\xFE");
 }
 
-fn check_times(image: &[u8; IMAGE_LENGTH], cert: &[u8; LONG_CERTIFICATE], count: u64) -> Verdict {
+fn check_times(
+    image: &[u8; IMAGE_LENGTH],
+    cert: &[u8; LONG_CERTIFICATE_LENGTH],
+    count: u64,
+) -> Verdict {
     let mut verdict = checker::check(image, cert);
     let mut left = count;
     while left > 1 {
@@ -166,7 +170,7 @@ fn count_of(what: u64) -> u64 {
     }
 }
 
-fn fill(what: u64, image: &mut [u8; IMAGE_LENGTH], cert: &mut [u8; LONG_CERTIFICATE]) {
+fn fill(what: u64, image: &mut [u8; IMAGE_LENGTH], cert: &mut [u8; LONG_CERTIFICATE_LENGTH]) {
     if what != 3 {
         put_main(image, cert);
     }
@@ -185,7 +189,7 @@ fn fill(what: u64, image: &mut [u8; IMAGE_LENGTH], cert: &mut [u8; LONG_CERTIFIC
 // 4 a full one of 2,540 entries, of which 1,267 are of an LDC that reaches all of ROM, 1,000 times.
 pub fn work(what: u64) {
     let mut image = [255u8; IMAGE_LENGTH];
-    let mut cert = [0u8; LONG_CERTIFICATE];
+    let mut cert = [0u8; LONG_CERTIFICATE_LENGTH];
     fill(what, &mut image, &mut cert);
     tell(check_times(&image, &cert, count_of(what)));
 }

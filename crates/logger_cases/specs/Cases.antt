@@ -11,7 +11,7 @@ use lib.Dec.{T}
 use lib.ListN.{length, getD, replicate, set}
 use Rattle.base.specs.Addresses.{romAddr, spCell}
 use Rattle.base.specs.Formula.{decide}
-use Rattle.base.specs.Lengths.{romLength, isCertificateLength, recordLength}
+use Rattle.base.specs.Lengths.{romLength, isCertificateLength, recordLength, isEntryCost}
 use Rattle.isa.specs.declared.Alu.{Alu}
 use Rattle.isa.specs.declared.Unary.{Unary}
 use Rattle.isa.specs.declared.FlagSet.{FlagSet}
@@ -20,9 +20,10 @@ use Rattle.chip.specs.Registers.{keptOf}
 use Rattle.alu.specs.declared.Computed.{Computed}
 use Rattle.alu.specs.Flags.{carry, flagsByte, update}
 use Rattle.alu.specs.Operations.{operate, modify}
+use Rattle.semantics.specs.declared.Configuration.{Configuration}
 use Rattle.semantics.specs.declared.Mode.the-variants.{Running}
 use Rattle.semantics.specs.declared.State.{State}
-use Rattle.semantics.specs.Step.{movedTo, stepOf}
+use Rattle.semantics.specs.Step.{movedTo, entryCost, stepOf}
 use Rattle.semantics.specs.Reset.{resetState}
 use Rattle.certificate.specs.declared.Verdict.{Verdict}
 use Rattle.certificate.specs.declared.Verdict.the-variants.{Accepted, Refused}
@@ -52,7 +53,7 @@ pub data Case : Type 0 where
   operates : Alu → ℕ → ℕ → Bool → ℕ → (ℕ → ℕ) → Case
   -- on one byte
   modifies : Unary → ℕ → ℕ → (ℕ → ℕ) → Case
-  -- the step at an address of the image with this SP leaves a byte at a register
+  -- the step at an address of the image with this SP leaves a byte at a register, whatever an entry costs
   steps : List ℕ → ℕ → ℕ → ℕ → ℕ → Case
   -- a register that holds a byte is written: what it then holds
   stores : ℕ → ℕ → ℕ → ℕ → Case
@@ -66,7 +67,9 @@ Leaves n r v f = (r .value ≡ v) × ((before : ℕ) → update before n (r .fla
 abbrev pub CaseHolds : Case → Type 0
 CaseHolds (operates op x y c v f) = Leaves (aluNames op) (operate op x y c) v f
 CaseHolds (modifies op x v f) = (c : Bool) → Leaves (unaryNames op) (modify op x c) v f
-CaseHolds (steps image pc sp a v) = (stepOf (record { «entry_cost» = 0 }) image (stateAt pc sp) (replicate recordLength 0) .stop ≡ 0) × (getD (stepOf (record { «entry_cost» = 0 }) image (stateAt pc sp) (replicate recordLength 0) .state .regs) a 0 ≡ v)
+CaseHolds (steps image pc sp a v) =
+    (K : Configuration) → isEntryCost (entryCost K) ≡ true
+    → let r = stepOf K image (stateAt pc sp) (replicate recordLength 0) in (r .stop ≡ 0) × (getD (r .state .regs) a 0 ≡ v)
 CaseHolds (stores a old v new) = keptOf a old v ≡ new
 CaseHolds (judges image cert v s) = (verdictOf image cert ≡ v) × (reportText (verdictOf image cert) (certificateOf cert) ≡ ascii s)
 
@@ -119,7 +122,7 @@ cases =
     ∷ judges (imageWith 0x7B) (certificateWith 364 0xBC) (Refused 25 (romAddr 0x100)) "refused 25 0100\n"
     ∷ []
 
-image-length : (j : ℕ) → length (imageWith j) ≡ romLength
+pub image-length : (j : ℕ) → length (imageWith j) ≡ romLength
 unfolding imageWith
 image-length j = refl
 
@@ -167,7 +170,7 @@ case-l-refused = on-tables 0x7B 10 364 (ends 0xBC) refl (Refused 25 (romAddr 0x1
 
 case-g : CaseHolds (steps callImage 0xA47 0xB2 0xB0 0x0A) × CaseHolds (steps callImage 0xA47 0xB2 0xB1 0x4A)
 unfolding opened callImage stateAt resetState
-case-g = ((refl, refl), (refl, refl))
+case-g = (λ K h. rw h (refl, refl), λ K h. rw h (refl, refl))
 
 case-a : CaseHolds (operates Alu.Adc 0x10 0x03 true 0x14 (allFour false false false false))
 unfolding opened

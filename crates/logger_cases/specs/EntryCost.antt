@@ -2,12 +2,18 @@
 -- Assumes nothing.
 use mathlib.Core.Path.{_≡_, refl}
 use mathlib.Core.List.{List, [], _∷_}
-use Prim.Native.Nat.{ℕ}
+use Prim.Native.Nat.{ℕ, _≤_}
+use native.Mathlib.Omega.{arith}
 use Rattle.base.specs.Addresses.{romAddr}
+use Rattle.base.specs.Lengths.{greatestEntryCost}
 use Rattle.certificate.specs.declared.Verdict.the-variants.{Accepted, Refused}
+use Rattle.certificate.specs.Layout.{certificateFrom}
 use Rattle.safety.specs.Verdicts.{verdictOf}
-use Rattle.logger_cases.specs.Program.{imageWith, certificateFor}
-use Rattle.logger_cases.specs.Cases.{on-tables}
+use Rattle.safety.specs.EntryCost.{cost-above-63}
+use Rattle.logger_cases.specs.Gathered.{bytes-length}
+use Rattle.logger_cases.specs.Computed.{certificate-tables}
+use Rattle.logger_cases.specs.Program.{imageWith, entry, cell, row, certificateFor, entry-length, cell-length, row-length}
+use Rattle.logger_cases.specs.Cases.{image-length, on-tables}
 use Rattle.logger_cases.specs.Opened.{opened}
 
 -- the certificate with the cycles of an entry and the service's bound
@@ -28,3 +34,13 @@ costed-refused = on-tables 0x7B 29 364 (0xA0 ∷ 0xC0 ∷ 20 ∷ []) refl (Refus
 pub greatest-accepted : verdictOf (imageWith 0x7B) (costed 63 73) ≡ Accepted
 unfolding opened
 greatest-accepted = on-tables 0x7B 73 364 (0xA0 ∷ 0xC0 ∷ 63 ∷ []) refl Accepted "accepted\n1 0100 2 0\n2 0140 0 73\n3 0120 0 364\n" tt refl refl .0
+
+-- one more is refused
+pub above-refused : verdictOf (imageWith 0x7B) (costed 64 74) ≡ Refused 20 (romAddr 0)
+unfolding certificateFor certificateFrom
+above-refused =
+    let ends : List ℕ = 0xA0 ∷ 0xC0 ∷ 64 ∷ [] in
+    let rows = row-length 74 364 in
+    let e = certificate-tables entry cell (row 74 364) ends entry-length cell-length rows in
+    cost-above-63 (imageWith 0x7B) (costed 64 74) (rw (image-length 0x7B)) (rw (bytes-length entry cell (row 74 364) ends entry-length cell-length rows))
+    (λ h. let z : 64 ≤ greatestEntryCost = rw e at h in omega (arith, z))

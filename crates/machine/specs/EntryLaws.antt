@@ -1,15 +1,20 @@
 -- Request 03, of the machine: what an interrupt entry costs, and that the number beside the image is refused above 63.
 -- Assumes nothing.
 use Prim.Native.Nat.{ℕ, _+_, _%_, _<_}
-use mathlib.Core.Path.{_≡_, _∙_, ap}
-use mathlib.Core.Bool.{true, false, and-false}
+use mathlib.Core.Path.{_≡_, _∙_, refl, ap}
+use mathlib.Core.Bool.{Bool, true, false, _&&_, and-false}
 use mathlib.Core.List.{List}
 use borrow.Author.Tests.{lt-leb}
 use lib.ListN.{length}
-use Rattle.base.specs.Lengths.{greatestEntryCost}
+use lib.Dec.{eqb}
+use Rattle.base.specs.Choice.{pick}
+use Rattle.base.specs.Lengths.{recordLength, greatestEntryCost}
 use Rattle.semantics.specs.declared.Configuration.{Configuration}
 use Rattle.semantics.specs.declared.State.{State}
-use Rattle.semantics.specs.Step.{refuse, entryDue, entryCost, requested, actAfterRequests, actedOf, validMachine, stepOf}
+use Rattle.semantics.specs.declared.Stepped.{Stepped}
+use Rattle.semantics.specs.Execute.{Executed}
+use Rattle.semantics.specs.Step.{Acted, refuse, refusedAct, movedTo, finishOf, enterOf, entryDue, entryCost, requested, actAfterRequests, actedOf, settled}
+use Rattle.semantics.specs.Step.{validMachine, stepOf}
 use Rattle.semantics.specs.Run.{ran, runOf}
 use Rattle.coverage.specs.Map.{isMapLength}
 use Rattle.coverage.specs.MapLaws.{Words}
@@ -29,11 +34,46 @@ module _ (K : Configuration) (image : List ℕ) (s : State) (rec : List ℕ) whe
   entry-adds small due goes =
       step-accounts s small K image rec .completed goes ∙ ap (λ (c : ℕ). (s .cycles + c) % 4294967296) (entry-cost due)
 
-  -- a step that is no entry does the same whatever an entry costs
-  pub other-step : (K′ : Configuration) → validMachine K image ≡ validMachine K′ image → entryDue (requested s rec) (s .mode) ≡ false
-      → stepOf K image s rec ≡ stepOf K′ image s rec
+-- two steps that differ at most in the cycle total
+pub record SameButCycles (a b : Stepped) : Type 0 where
+  pub regs : a .state .regs ≡ b .state .regs
+  pub pc : a .state .pc ≡ b .state .pc
+  pub mode : a .state .mode ≡ b .state .mode
+  pub stop : a .stop ≡ b .stop
+
+same : (a : Stepped) → SameButCycles a a
+same a = record { regs = refl; pc = refl; mode = refl; stop = refl }
+
+module _ (K K′ : Configuration) (image : List ℕ) (s : State) (rec : List ℕ) (valid : validMachine K image ≡ validMachine K′ image) where
+  -- a step that is no entry is the same whatever an entry costs
+  pub other-step : entryDue (requested s rec) (s .mode) ≡ false → stepOf K image s rec ≡ stepOf K′ image s rec
   unfolding stepOf actedOf actAfterRequests
-  other-step K′ valid due = rw (due, valid)
+  other-step due = rw (due, valid)
+
+  finish-same : (e : Executed) (c c′ : ℕ) → SameButCycles (settled s (finishOf s e false c)) (settled s (finishOf s e false c′))
+  unfolding finishOf settled
+  finish-same e c c′ = on (eqb (e .next .stop) 0)
+    where
+      done : Bool → ℕ → Acted
+      done b k =
+          pick b (record { state = movedTo s (e .regs) (e .next .pc) (e .next .mode) k; stop = 0; retired = false; elapsed = k })
+          (refusedAct s (e .next .stop))
+
+      on : (b : Bool) → SameButCycles (settled s (done b c)) (settled s (done b c′))
+      on true = record { regs = refl; pc = refl; mode = refl; stop = refl }
+      on false = same _
+
+  -- of any step the cycle total alone depends on it
+  pub only-cycles : SameButCycles (stepOf K image s rec) (stepOf K′ image s rec)
+  unfolding stepOf actedOf actAfterRequests
+  only-cycles = rw valid (on (validMachine K′ image && eqb (length rec) recordLength) (entryDue (requested s rec) (s .mode)))
+    where
+      on : (b due : Bool)
+          → SameButCycles (pick b (settled s (actAfterRequests due K image s (requested s rec) rec)) (refuse s 7))
+          (pick b (settled s (actAfterRequests due K′ image s (requested s rec) rec)) (refuse s 7))
+      on true true = finish-same (enterOf image (requested s rec) (s .pc)) (entryCost K) (entryCost K′)
+      on true false = same _
+      on false due = same _
 
 module _ (K : Configuration) (image : List ℕ) (s : State) (above : greatestEntryCost < entryCost K) where
   -- "7 for .. a step's or run's number above 63": in every call, and nothing is done

@@ -87,7 +87,7 @@ pub fn configuration_of(bytes: &[u8]) -> Configuration {
     }
 }
 
-// Whether the machine has a configuration that is given as bytes: the first profile yet.
+// Whether the machine has a configuration that is given as bytes: only the first profile yet.
 pub fn is_supported_configuration(bytes: &[u8]) -> bool {
     byte_at(bytes, PROFILE) == 0
 }

@@ -2,7 +2,7 @@
 // code it reached: whoever has the files, the seed and the number of records gets the same text. The cycles of an interrupt entry and the starts of
 // instructions are those of `cert.hex`; without that file an entry takes none.
 use base::IMAGE_LENGTH;
-use base::LONG_CERTIFICATE;
+use base::LONG_CERTIFICATE_LENGTH;
 use base::RECORD_LENGTH;
 use base::RomAddr;
 use coverage::Map;
@@ -19,7 +19,7 @@ use xorshift::Filled;
 
 type Image = [u8; IMAGE_LENGTH];
 
-type Certificate = [u8; LONG_CERTIFICATE];
+type Certificate = [u8; LONG_CERTIFICATE_LENGTH];
 
 // The most records of one call of `run_covered`, and their bytes.
 const PART: u64 = 1000;
@@ -200,7 +200,7 @@ fn read_pieces(fd: i32, cert: &mut Certificate) -> Text {
         }
         left -= 1;
     }
-    hex_text::finish(s, LONG_CERTIFICATE)
+    hex_text::finish(s, LONG_CERTIFICATE_LENGTH)
 }
 
 // Prints the lowest start of a certificate that the run has not reached.
@@ -265,7 +265,7 @@ fn run_certified(image: &Image, cert: &Certificate, seed: u32, count: u64) {
 
 // With the certificate in an open file; one that is refused has no cycles of an entry, so nothing is run.
 fn run_with(fd: i32, image: &Image, seed: u32, count: u64) {
-    let mut cert: Certificate = [0; LONG_CERTIFICATE];
+    let mut cert: Certificate = [0; LONG_CERTIFICATE_LENGTH];
     match read_pieces(fd, &mut cert) {
         Text::Read => run_certified(image, &cert, seed, count),
         Text::Refused(number) => print_refused(number),

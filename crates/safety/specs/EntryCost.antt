@@ -2,7 +2,7 @@
 -- Assumes nothing.
 use Prim.Native.Nat.{ℕ, _+_, _*_, _≤_, _<_}
 use mathlib.Core.Path.{_≡_, refl, sym, _∙_, ap, fun-ext}
-use mathlib.Core.Logic.{inl, inr}
+use mathlib.Core.Logic.{_≢_, inl, inr}
 use mathlib.Core.Bool.{Bool, true, false, _&&_}
 use mathlib.Core.List.{List, [], _∷_, _++_}
 use native.Mathlib.Omega.{arith}
@@ -12,13 +12,13 @@ use lib.Seq.{take-append-le, drop-append-le, getD-append-seam}
 use borrow.Author.Tests.{ltb-true}
 use Rattle.base.specs.Addresses.{romAddr}
 use Rattle.base.specs.Choice.{pick}
-use Rattle.base.specs.Formula.{Holds, decide-no}
-use Rattle.base.specs.Lengths.{romLength, isImageLength, isCertificateLength, shortCertificate, greatestEntryCost}
+use Rattle.base.specs.Formula.{Holds, decide-no, eqb-no}
+use Rattle.base.specs.Lengths.{romLength, isImageLength, isCertificateLength, shortCertificateLength, greatestEntryCost}
 use Rattle.semantics.specs.declared.State.{State}
 use Rattle.semantics.specs.Step.{vectorOf}
 use Rattle.certificate.specs.declared.Verdict.the-variants.{Accepted, Refused}
 use Rattle.certificate.specs.Layout.{Certificate, certificateFrom, part, entryPart, cellPart, rowPart, certificateOf}
-use Rattle.safety.specs.Rules.{worst, rule20}
+use Rattle.safety.specs.Rules.{worst, rule20, openingCost}
 use Rattle.safety.specs.Verdicts.{rulesWith, rulesAt, verdictOnBy, verdictBy, verdictOf, Broken}
 use Rattle.safety.specs.Statement.{Open, entered, spent}
 use Rattle.safety.specs.Accepted.{accepts, accepted-lengths}
@@ -35,9 +35,13 @@ module _ (C : Certificate) (image : List ℕ) (s : State) (o : Open) where
   pub nobody-else : spent C image entered s o .outer ≡ o .inner ∷ o .outer
   nobody-else = refl
 
+-- and no other row has to cover it
+pub others-open-free : (C : Certificate) (n : ℕ) → n ≢ 2 → openingCost C n ≡ 0
+others-open-free C n h = ap (λ (b : Bool). pick b (C .entryCost) 0) (eqb-no h)
+
 -- "A certificate of 58,498 bytes means 0" --
 
-pub short-means-zero : (cert : List ℕ) → length cert ≡ shortCertificate → certificateOf cert .entryCost ≡ 0
+pub short-means-zero : (cert : List ℕ) → length cert ≡ shortCertificateLength → certificateOf cert .entryCost ≡ 0
 unfolding certificateOf certificateFrom
 short-means-zero cert h = List·getD-eq-default cert 0 (omega arith)
 
@@ -61,7 +65,7 @@ abbrev pub withCost : List ℕ → ℕ → Certificate
 withCost b e = certificateFrom (entryPart b) (cellPart b) (rowPart b) (getD b 0xE480 0) (getD b 0xE481 0) e
 
 -- one byte more is the cycles of an entry, and the rest stays
-pub byte-behind : (cert : List ℕ) (x : ℕ) → length cert ≡ shortCertificate → certificateOf (cert ++ (x ∷ [])) ≡ withCost cert x
+pub byte-behind : (cert : List ℕ) (x : ℕ) → length cert ≡ shortCertificateLength → certificateOf (cert ++ (x ∷ [])) ≡ withCost cert x
 unfolding certificateOf
 byte-behind cert x h =
     let more = x ∷ [] in
@@ -75,7 +79,7 @@ byte-behind cert x h =
       last,
     )
 
-pub same-certificate : (cert : List ℕ) → length cert ≡ shortCertificate → certificateOf (cert ++ (0 ∷ [])) ≡ certificateOf cert
+pub same-certificate : (cert : List ℕ) → length cert ≡ shortCertificateLength → certificateOf (cert ++ (0 ∷ [])) ≡ certificateOf cert
 unfolding certificateOf certificateFrom
 same-certificate cert h = byte-behind cert 0 h ∙ sym (ap (withCost cert) (short-means-zero cert h))
 
@@ -84,7 +88,7 @@ module _ (image cert : List ℕ) where
   C = certificateOf cert
 
   -- so the byte 0 changes no verdict
-  pub zero-byte-same : length cert ≡ shortCertificate → verdictOf image (cert ++ (0 ∷ [])) ≡ verdictOf image cert
+  pub zero-byte-same : length cert ≡ shortCertificateLength → verdictOf image (cert ++ (0 ∷ [])) ≡ verdictOf image cert
   unfolding verdictBy
   zero-byte-same h = rw (length-append cert (0 ∷ []), h, same-certificate cert h)
 

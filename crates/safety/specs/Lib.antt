@@ -17,6 +17,7 @@ pub mod Instruction
 pub mod Interrupts
 pub mod Invariant
 pub mod Memory
+pub mod Opened
 pub mod Plain
 pub mod Refine
 pub mod RefineCode
@@ -26,6 +27,7 @@ pub mod RefineOperands
 pub mod RefineStack
 pub mod Rules
 pub mod Runs
+pub mod SmallerCost
 pub mod Sound
 pub mod Statement
 pub mod StepRules

@@ -28,7 +28,7 @@ use Rattle.semantics.specs.declared.State.{State}
 use Rattle.semantics.specs.declared.Stepped.{Stepped}
 use Rattle.semantics.specs.Operands.{placeOf, lowered, wordAt, spOf}
 use Rattle.semantics.specs.Execute.{codeAddress}
-use Rattle.semantics.specs.Step.{requested, entryDue, behind, actedOf, stepOf}
+use Rattle.semantics.specs.Step.{requested, entryDue, entryCost, behind, actedOf, stepOf}
 use Rattle.semantics.specs.Run.{recordAt, runOf}
 use Rattle.semantics.specs.Reset.{IsReset}
 use Rattle.certificate.specs.Layout.{Certificate}
@@ -201,7 +201,7 @@ module _ (C : Certificate) where
 module _ (C : Certificate) (image : List ℕ) where
   -- the open routines with what the step costs, before one closes: an entry opens 2 with the address it pushes and its own cost
   abbrev pub spent : Event → State → Open → Open
-  spent entered s o = opening (record { routine = 2; returnTo = s .pc .0; cycles = C .entryCost; opener = byInterrupt }) o
+  spent entered s o = opening (record { routine = 2; returnTo = s .pc .0; cycles = entryCost (configurationOf C); opener = byInterrupt }) o
   spent waited s o = o
   spent (executed act next) s o = charge (costHere image s) o
 

@@ -13,7 +13,7 @@ use Rattle.base.specs.Choice.{pick}
 use Rattle.base.specs.Outcome.{Outcome}
 use Rattle.base.specs.Outcome.Outcome.{value, refused}
 use Rattle.base.specs.Formula.{Formula, Holds, decide, eq, _&_, _‖_}
-use Rattle.base.specs.Lengths.{romLength, shortCertificate, longCertificate, isImageLength, isCertificateLength}
+use Rattle.base.specs.Lengths.{romLength, shortCertificateLength, longCertificateLength, isImageLength, isCertificateLength}
 use Rattle.isa.specs.declared.FlagSet.{FlagSet}
 use Rattle.isa.specs.declared.Instruction.{Instruction}
 use Rattle.isa.specs.Map.{cyclesOf}
@@ -123,7 +123,7 @@ Breaks (r ∷ rs) n = ((r .number ≡ n) × (Holds (r .formula) → ⊥)) ⊎ Br
 
 -- image and certificate have their lengths
 abbrev pub lengthsRight : List ℕ → List ℕ → Formula
-lengthsRight image cert = eq (length image) romLength & (eq (length cert) shortCertificate ‖ eq (length cert) longCertificate)
+lengthsRight image cert = eq (length image) romLength & (eq (length cert) shortCertificateLength ‖ eq (length cert) longCertificateLength)
 
 -- the rules on the whole, which report 0000H: 7 the lengths, and 20
 abbrev pub rulesOnWhole : List ℕ → List ℕ → List Rule

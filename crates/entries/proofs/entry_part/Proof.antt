@@ -2,22 +2,23 @@
 use Rattle.certificate.specs.Layout.{part}
 use Rattle.entries.proofs.Pieces.{with-fields}
 use borrow.Author.Tests.{lt-ltb, le-ltb}
+use native.Mathlib.Omega.{arith}
 use borrow.Author.Needs.{needs}
 use Rattle.entries.proofs.entry_part.Statement.{statement}
 use Rattle.entries.proofs.entry_part.Tie as tie
 
-cast-piece : tie.Need-cast-piece
-cast-piece c = search needs
+cast-part-at : tie.Need-cast-part-at
+cast-part-at c = search needs
 
-mul-piece : tie.Need-mul-piece
-mul-piece c = search needs
+mul-part-at : tie.Need-mul-part-at
+mul-part-at c = search needs
 
-piece-requires : tie.Need-piece-requires
-piece-requires c κs = search needs
+part-at-requires : tie.Need-part-at-requires
+part-at-requires c κs = omega arith
 
 returns : tie.Need-returns
 unfolding part
-returns c = with-fields _ _ _ (rw (part, lt-ltb _ _ (c .before .before .if1 .taken)) (c .piece .ensures))
+returns c = with-fields _ _ _ (rw (part, lt-ltb _ _ (c .before .before .if1 .taken)) (c .part-at .ensures))
 
 sub-result : tie.Need-sub-result
 sub-result c = search needs
@@ -36,9 +37,9 @@ pub entry-part-spec : {M : Type 1} → statement M
 entry-part-spec =
     tie.close
     (tie.spec
-    cast-piece
-    mul-piece
-    piece-requires
+    cast-part-at
+    mul-part-at
+    part-at-requires
     returns
     sub-result
     part-result-start

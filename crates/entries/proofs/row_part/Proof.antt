@@ -2,22 +2,23 @@
 use lib.Seq.{drop-drop}
 use Rattle.certificate.specs.Layout.{part}
 use borrow.Author.Tests.{lt-ltb, le-ltb}
+use native.Mathlib.Omega.{arith}
 use borrow.Author.Needs.{needs}
 use Rattle.entries.proofs.row_part.Statement.{statement}
 use Rattle.entries.proofs.row_part.Tie as tie
 
-mul-piece : tie.Need-mul-piece
-mul-piece c = search needs
+mul-part-at : tie.Need-mul-part-at
+mul-part-at c = search needs
 
-add-piece : tie.Need-add-piece
-add-piece c = search needs
+add-part-at : tie.Need-add-part-at
+add-part-at c = search needs
 
-piece-requires : tie.Need-piece-requires
-piece-requires c κs = search needs
+part-at-requires : tie.Need-part-at-requires
+part-at-requires c κs = omega arith
 
 returns : tie.Need-returns
 unfolding part
-returns c = rw (part, lt-ltb _ _ (c .before .if1 .taken), drop-drop) (c .piece .ensures)
+returns c = rw (part, lt-ltb _ _ (c .before .if1 .taken), drop-drop) (c .part-at .ensures)
 
 sub-result : tie.Need-sub-result
 sub-result c = search needs
@@ -36,9 +37,9 @@ pub row-part-spec : {M : Type 1} → statement M
 row-part-spec =
     tie.close
     (tie.spec
-    mul-piece
-    add-piece
-    piece-requires
+    mul-part-at
+    add-part-at
+    part-at-requires
     returns
     sub-result
     part-result-start
