@@ -16,31 +16,34 @@ use Rattle.logger_cases.specs.Program.{imageWith, entry, cell, row, cert
 use Rattle.logger_cases.specs.Cases.{image-length, on-tables}
 use Rattle.logger_cases.specs.Opened.{opened}
 
+-- from E480H on: floor, top and the cycles of an entry
+abbrev ends : ℕ → List ℕ
+ends cost = 0xA0 ∷ 0xC0 ∷ cost ∷ []
+
 -- the certificate with the cycles of an entry and the service's bound
 abbrev pub costed : ℕ → ℕ → List ℕ
-costed cost bound = certificateFor bound 364 (0xA0 ∷ 0xC0 ∷ cost ∷ [])
+costed cost bound = certificateFor bound 364 (ends cost)
 
 -- 20 cycles and IRET's 10
 pub costed-accepted : verdictOf (imageWith 0x7B) (costed 20 30) ≡ Accepted
 unfolding opened
-costed-accepted = on-tables 0x7B 30 364 (0xA0 ∷ 0xC0 ∷ 20 ∷ []) refl Accepted "accepted\n1 0100 2 0\n2 0140 0 30\n3 0120 0 364\n" tt refl refl .0
+costed-accepted = on-tables 0x7B 30 364 (ends 20) refl Accepted "accepted\n1 0100 2 0\n2 0140 0 30\n3 0120 0 364\n" tt refl refl .0
 
 -- a bound one too small
 pub costed-refused : verdictOf (imageWith 0x7B) (costed 20 29) ≡ Refused 27 (romAddr 0x140)
 unfolding opened
-costed-refused = on-tables 0x7B 29 364 (0xA0 ∷ 0xC0 ∷ 20 ∷ []) refl (Refused 27 (romAddr 0x140)) "refused 27 0140\n" tt refl refl .0
+costed-refused = on-tables 0x7B 29 364 (ends 20) refl (Refused 27 (romAddr 0x140)) "refused 27 0140\n" tt refl refl .0
 
 -- the most that an entry may take
 pub greatest-accepted : verdictOf (imageWith 0x7B) (costed 63 73) ≡ Accepted
 unfolding opened
-greatest-accepted = on-tables 0x7B 73 364 (0xA0 ∷ 0xC0 ∷ 63 ∷ []) refl Accepted "accepted\n1 0100 2 0\n2 0140 0 73\n3 0120 0 364\n" tt refl refl .0
+greatest-accepted = on-tables 0x7B 73 364 (ends 63) refl Accepted "accepted\n1 0100 2 0\n2 0140 0 73\n3 0120 0 364\n" tt refl refl .0
 
 -- one more is refused
 pub above-refused : verdictOf (imageWith 0x7B) (costed 64 74) ≡ Refused 20 (romAddr 0)
 unfolding certificateFor certificateFrom
 above-refused =
-    let ends : List ℕ = 0xA0 ∷ 0xC0 ∷ 64 ∷ [] in
     let rows = row-length 74 364 in
-    let e = certificate-tables entry cell (row 74 364) ends entry-length cell-length rows in
-    cost-above-63 (imageWith 0x7B) (costed 64 74) (rw (image-length 0x7B)) (rw (bytes-length entry cell (row 74 364) ends entry-length cell-length rows))
+    let e = certificate-tables entry cell (row 74 364) (ends 64) entry-length cell-length rows in
+    cost-above-63 (imageWith 0x7B) (costed 64 74) (rw (image-length 0x7B)) (rw (bytes-length entry cell (row 74 364) (ends 64) entry-length cell-length rows))
     (λ h. let z : 64 ≤ greatestEntryCost = rw e at h in omega (arith, z))
