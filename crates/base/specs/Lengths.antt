@@ -4,12 +4,9 @@ use Prim.Native.Nat.{ℕ}
 use mathlib.Core.Bool.{Bool, _||_}
 use lib.Dec.{eqb, leb}
 
--- bytes of ROM, and of an image
-abbrev pub romLength : ℕ
-romLength = 4096
-
-abbrev pub isImageLength : ℕ → Bool
-isImageLength n = eqb n romLength
+-- bytes of the largest ROM: the certificate has an entry, and a coverage map a bit, for each of its addresses
+abbrev pub largestRom : ℕ
+largestRom = 4096
 
 -- bytes of a certificate: without the cycles of an entry, which are then 0, and with them, one byte more (request 03)
 abbrev pub shortCertificateLength : ℕ

@@ -7,6 +7,7 @@ pub mod Formula
 pub mod Lengths
 pub mod Lists
 pub mod Outcome
+pub mod Parts
 pub mod Table
 pub mod Tests
 pub mod Wrap

@@ -1,13 +1,15 @@
--- Parts of a slice, as they come back from a call that was lent them, and stores that fill a list from its front or lie past its end.
+-- Parts of a slice, as they come back from a call that was lent them; a list by its elements; stores that fill a list from its front or lie past
+-- its end.
 -- Assumes nothing.
-use Prim.Native.Nat.{ℕ, suc, _+_, _-_, _≤_, _<_}
-use mathlib.Core.Path.{_≡_, refl, _∙_}
-use mathlib.Core.List.{List, [], _∷_, _++_, append-assoc, append-nil}
+use Prim.Native.Nat.{ℕ, zero, suc, _+_, _-_, _≤_, _<_}
+use mathlib.Core.Path.{_≡_, refl, sym, _∙_, ap}
+use mathlib.Core.List.{List, [], _∷_, _++_, append-assoc, append-nil, map}
 use native.Mathlib.Nat.{le-of-eq}
 use native.Mathlib.Numerals.{add-one}
 use native.Mathlib.Omega.{arith}
 use lib.ListN.{length, getD, take, drop, set, length-drop, drop-of-length-le}
 use lib.Seq.{take-all, drop-cons, take-at, drop-at, drop-drop, set-at, set-out, sets}
+use Rattle.base.specs.Choice.{from}
 
 -- the part from n to the end
 pub part-to-end : (n : ℕ) (l : List ℕ) → take (length l - n) (drop n l) ≡ drop n l
@@ -27,6 +29,19 @@ pub part-back-behind : (r d xs ys : List ℕ) (a n : ℕ) → length r ≡ a →
 part-back-behind r d xs ys a n e g =
     part-back xs d a n
     ∙ rw (g, take-at r (drop a ys) a e, drop-at r (drop a ys) a e, drop-drop n a ys, append-assoc r d (drop (a + n) ys))
+
+-- a list from i on, element by element
+elements : (n i : ℕ) (l : List ℕ) → length l ≡ i + n → map (λ (k : ℕ). getD l k 0) (from n i) ≡ drop i l
+elements zero i l h =
+    let e : length l ≤ i = omega arith in
+    sym (drop-of-length-le l e)
+elements (suc n) i l h =
+    let e : i < length l = omega arith in
+    rw (drop-cons l i 0 e) (ap (λ (r : List ℕ). getD l i 0 ∷ r) (elements n (suc i) l (omega arith)))
+
+-- the whole list, element by element
+pub all-elements : (n : ℕ) (l : List ℕ) → length l ≡ n → map (λ (k : ℕ). getD l k 0) (from n 0) ≡ l
+all-elements n l h = elements n 0 l (omega arith)
 
 -- a store right behind what is written
 pub store-next : (done p : List ℕ) (i v : ℕ) → length done ≡ i → i < length p

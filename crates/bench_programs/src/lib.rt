@@ -1,5 +1,5 @@
 // What the benchmarks of the machine share: the programs that they run, the schedule, what a run leaves, and the arguments.
-use base::IMAGE_LENGTH;
+use base::IMAGE_4K;
 use base::RECORD_LENGTH;
 use semantics::State;
 use test_support::print;
@@ -18,7 +18,7 @@ const START: usize = 0x100;
 
 // A loop that calls a routine, pushes and pops. The routine adds over a table by a pointer, and works on what it has added. Each turn of its loop writes
 // P0PND: 02H enables external interrupt 0, 00H leaves it disabled. The service disables it up to the next turn.
-fn mixed_program(image: &mut [u8; IMAGE_LENGTH], enable: u8) {
+fn mixed_program(image: &mut [u8; IMAGE_4K], enable: u8) {
     put(image, 0, b"\x01\x80");
     // LD SP,#C0H; EI; LD R4,#01H; CALL 0140H; PUSH R4; POP R5; JR to CALL
     put(
@@ -46,7 +46,7 @@ fn row_of(what: u64) -> u8 {
 }
 
 // A row of a table, 24 bytes, to where reset starts.
-fn put_row(image: &mut [u8; IMAGE_LENGTH], rows: &[u8], row: u8) {
+fn put_row(image: &mut [u8; IMAGE_4K], rows: &[u8], row: u8) {
     let at = 24 * (row as usize);
     let end = at + 24;
     if end <= rows.len() {
@@ -66,7 +66,7 @@ fn put_row(image: &mut [u8; IMAGE_LENGTH], rows: &[u8], row: u8) {
 // 11: LD R4,#01H; LDC R3,@RR4; LDCI R3,@RR4; LDC R3,05H[RR4]; LDC R3,0100H; JR
 // 12: JR C,+0; JR NC,+0; JR Z,+0; JR NZ,+0; JR ULE,+0; JR GT,+0; JP to the start
 // 13: RCF; SCF; CCF; NOP; DI; EI; JR
-fn group(what: u64, image: &mut [u8; IMAGE_LENGTH]) {
+fn group(what: u64, image: &mut [u8; IMAGE_4K]) {
     put(image, 0x140, b"\xAF");
     put_row(
         image,
@@ -86,8 +86,8 @@ fn group(what: u64, image: &mut [u8; IMAGE_LENGTH]) {
 }
 
 // The program of a row: 1 is a plain loop, 2 the mixed program, 3 the same with interrupts, 4 to 13 are groups of instructions.
-pub fn program(what: u64) -> [u8; IMAGE_LENGTH] {
-    let mut image = [255u8; IMAGE_LENGTH];
+pub fn program(what: u64) -> [u8; IMAGE_4K] {
+    let mut image = [255u8; IMAGE_4K];
     match what {
         2 => mixed_program(&mut image, 0x00),
         3 => mixed_program(&mut image, 0x02),

@@ -5,7 +5,7 @@ use mathlib.Core.List.{List, []}
 use lib.ListN.{getD, take, drop}
 use lib.Dec.{ltb}
 use Rattle.base.specs.Choice.{pick}
-use Rattle.base.specs.Lengths.{romLength}
+use Rattle.base.specs.Lengths.{largestRom}
 
 -- what a certificate says
 pub record Certificate : Type 0 where
@@ -77,7 +77,7 @@ part b i w m k = pick (ltb k m) (take w (drop (w * k) (drop i b))) []
 -- 14 bytes at 14 × address; E000H: 3 bytes a register; E300H: 6 bytes a routine; E480H floor, E481H top; E482H the cycles of an entry (request 03),
 -- a byte that a short certificate has not: then 0
 abbrev pub entryPart : List ℕ → ℕ → List ℕ
-entryPart b = part b 0 14 romLength
+entryPart b = part b 0 14 largestRom
 
 abbrev pub cellPart : List ℕ → ℕ → List ℕ
 cellPart b = part b 0xE000 3 256

@@ -2,8 +2,10 @@
 // certificate's length; edits of an image of FFH, and of a certificate of 00H; and the answer that it expects.
 ghost use Prim.Native.Nat.{_≤_};
 ghost use Rattle.base.specs.Lengths.{longCertificateLength};
-use base::IMAGE_LENGTH;
+use base::IMAGE_2K;
+use base::IMAGE_4K;
 use base::LONG_CERTIFICATE_LENGTH;
+use base::Profile;
 use base::SHORT_CERTIFICATE_LENGTH;
 use certificate::Verdict;
 use test_support::Case;
@@ -63,9 +65,9 @@ fn tell(kind: Kind, expected: Answer, given: Answer) {
     print(b"\n");
 }
 
-// Whether the checker has the profile of a case, only the first yet, and its certificate length.
+// Whether the checker has the profile of a case, and its certificate length.
 fn is_supported(kind: Kind) -> bool {
-    (kind.profile == 0) & (kind.length <= 1)
+    (kind.profile <= 1) & (kind.length <= 1)
 }
 
 // The bytes of a case's certificate.
@@ -79,19 +81,28 @@ fn length_of(kind: Kind) -> usize
     }
 }
 
+// The verdict on a case; an image of the 2K part is the first 2048 bytes.
+fn verdict_of(kind: Kind, image: &[u8; IMAGE_4K], cert: &[u8]) -> Verdict {
+    let bytes = &image[..];
+    if kind.profile == 0 {
+        return checker::check(Profile::Rom4K, bytes, cert);
+    }
+    checker::check(Profile::Rom2K, &bytes[0..IMAGE_2K], cert)
+}
+
 fn same_answer(a: Answer, b: Answer) -> bool {
     (a.number == b.number) & (a.address == b.address)
 }
 
 // Reads the rest of a case, and compares; one that is cut off differs.
 fn compare(fd: i32, kind: Kind, counts: Counts) -> Case {
-    let mut image = [255u8; IMAGE_LENGTH];
+    let mut image = [255u8; IMAGE_4K];
     let mut cert = [0u8; LONG_CERTIFICATE_LENGTH];
     let mut three = [0u8; 3];
     let edited = read_edits(fd, &mut image) & read_edits(fd, &mut cert);
     let whole = (io::read_full(fd, &mut three) == 3) & edited;
     let expected = expected_of(&three);
-    let given = answer_of(checker::check(&image, &cert[0..length_of(kind)]));
+    let given = answer_of(verdict_of(kind, &image, &cert[0..length_of(kind)]));
     if whole & is_supported(kind) & same_answer(expected, given) {
         return Case::Same;
     }

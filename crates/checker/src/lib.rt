@@ -1,11 +1,13 @@
 // The certificate checker.
 ghost use mathlib.Core.Path.{_≡_};
-ghost use Rattle.base.specs.Lengths.{romLength};
+ghost use Rattle.base.specs.Parts.{partOf};
 ghost use Rattle.certificate.specs.Layout.{certificateOf};
 ghost use Rattle.safety.specs.Verdicts.{rulesOn, rulesAt, firstBroken, numberAt, scan, verdictOf, Exact};
 ghost use Rattle.checker.specs.Tested.{tested, numberUnless};
 ghost use Rattle.certificate.specs.declared.Verdict.the-variants.{Accepted};
-ghost use Rattle.safety.specs.Statement.{configurationOf, Demand3};
+ghost use Rattle.safety.specs.Statement.{setupFor, Demand3};
+ghost use Rattle.semantics.specs.Setup.{setupOf};
+use base::Profile;
 use base::RomAddr;
 use certificate::Summary;
 use certificate::Verdict;
@@ -42,15 +44,15 @@ fn lowest(h: Holding) -> u8
     unless(h.rule21, 21, from22)
 }
 
-// The lowest number of a rule that is broken at a, or 0.
-fn first_broken(cert: &[u8], a: RomAddr, s: Summary, cost: u8, next: RomAddr) -> u8
-    ensures { λ r. ⌜ r ≡ firstBroken (rulesOn (certificateOf (now (cert .entry))) (a .0) s (next .0) cost) ⌝ }
+// The lowest number of a rule that is broken at a, or 0, for a ROM of rom bytes.
+fn first_broken(rom: u16, cert: &[u8], a: RomAddr, s: Summary, cost: u8, next: RomAddr) -> u8
+    ensures { λ r. ⌜ r ≡ firstBroken (rulesOn rom (certificateOf (now (cert .entry))) (a .0) s (next .0) cost) ⌝ }
 {
     lowest(Holding {
-        rule21: rules::rule21(cert, a, s, next),
+        rule21: rules::rule21(rom, cert, a, s, next),
         rule22: rules::rule22(cert, a, s),
         rule23: rules::rule23(cert, a, s),
-        rule24: rule24::rule24(cert, a, s),
+        rule24: rule24::rule24(rom, cert, a, s),
         rule25: rule25::rule25(cert, a, s, next),
         rule26: rule26::rule26(cert, a, s, next),
         rule27: rule27::rule27(cert, a, s, cost, next),
@@ -58,32 +60,32 @@ fn first_broken(cert: &[u8], a: RomAddr, s: Summary, cost: u8, next: RomAddr) ->
 }
 
 // The number at an address with an entry.
-fn number_in(image: &[u8], cert: &[u8], a: RomAddr) -> u8
-    ensures { λ r. ⌜ r ≡ firstBroken (rulesAt (certificateOf (now (cert .entry))) (now (image .entry)) (a .0)) ⌝ }
+fn number_in(rom: u16, image: &[u8], cert: &[u8], a: RomAddr) -> u8
+    ensures { λ r. ⌜ r ≡ firstBroken (rulesAt rom (certificateOf (now (cert .entry))) (now (image .entry)) (a .0)) ⌝ }
 {
     let i = located::instruction_at(image, cert, a);
     let s = i.summary;
-    first_broken(cert, a, s, located::cost_at(image, a), i.next)
+    first_broken(rom, cert, a, s, located::cost_at(image, a), i.next)
 }
 
 // The lowest number that is broken at an address; where no instruction starts, none is.
-fn number_at(image: &[u8], cert: &[u8], a: RomAddr) -> u8
-    ensures { λ r. ⌜ r ≡ numberAt (certificateOf (now (cert .entry))) (now (image .entry)) (a .0) ⌝ }
+fn number_at(rom: u16, image: &[u8], cert: &[u8], a: RomAddr) -> u8
+    ensures { λ r. ⌜ r ≡ numberAt rom (certificateOf (now (cert .entry))) (now (image .entry)) (a .0) ⌝ }
 {
     let e = entries::entry_of(entries::entry_part(cert, a));
     if e.routine == 0 {
         return 0;
     }
-    number_in(image, cert, a)
+    number_in(rom, image, cert, a)
 }
 
 // The lowest address with a broken rule, and there the lowest number.
-fn first_refusal(image: &[u8], cert: &[u8]) -> Verdict
-    ensures { λ r. ⌜ r ≡ scan (certificateOf (now (cert .entry))) (now (image .entry)) romLength 0 ⌝ }
+fn first_refusal(rom: u16, image: &[u8], cert: &[u8]) -> Verdict
+    ensures { λ r. ⌜ r ≡ scan rom (certificateOf (now (cert .entry))) (now (image .entry)) rom 0 ⌝ }
 {
     let mut a: u16 = 0;
-    while a < base::ROM_END {
-        let n = number_at(image, cert, RomAddr(a));
+    while a < rom {
+        let n = number_at(rom, image, cert, RomAddr(a));
         if n != 0 {
             return Verdict::Refused(n, RomAddr(a));
         }
@@ -92,30 +94,38 @@ fn first_refusal(image: &[u8], cert: &[u8]) -> Verdict
     Verdict::Accepted
 }
 
-// The verdict on an image and a certificate: accepted exactly when no rule is broken, else the number and the address of the first broken rule
-// (demand 2). What is accepted is safe on every run from reset, under every schedule (demand 3).
-pub fn check(image: &[u8], cert: &[u8]) -> Verdict
-    ensures verdict { λ r. ⌜ r ≡ verdictOf (now (image .entry)) (now (cert .entry)) ⌝ }
-    ensures exact { λ r. ⌜ Exact (now (image .entry)) (now (cert .entry)) r ⌝ }
-    ensures safe { λ r. ⌜ (r ≡ Accepted → Demand3 (certificateOf (now (cert .entry))) (now (image .entry))) ⌝ }
+// The verdict on an image and a certificate, for a ROM of rom bytes.
+fn verdict_for(rom: u16, image: &[u8], cert: &[u8]) -> Verdict
+    ensures { λ r. ⌜ r ≡ verdictOf rom (now (image .entry)) (now (cert .entry)) ⌝ }
 {
-    if !base::is_image_length(image.len()) {
+    if image.len() != rom as usize {
         return Verdict::Refused(7, RomAddr(0));
     }
     if !base::is_certificate_length(cert.len()) {
         return Verdict::Refused(7, RomAddr(0));
     }
-    if !rule20::rule20(image, cert) {
+    if !rule20::rule20(rom, image, cert) {
         return Verdict::Refused(20, RomAddr(0));
     }
-    first_refusal(image, cert)
+    first_refusal(rom, image, cert)
 }
 
-// The configuration of a certificate: what a machine must be given beside the image for demand 3 to speak of its runs.
-pub fn configuration_of(cert: &[u8]) -> Configuration
-    ensures { λ r. ⌜ r ≡ configurationOf (certificateOf (now (cert .entry))) ⌝ }
+// The verdict on an image of a part and a certificate: accepted exactly when no rule is broken, else the number and the address of the first broken
+// rule (demand 2). What is accepted is safe on every run of that part from reset, under every schedule (demand 3).
+pub fn check(profile: Profile, image: &[u8], cert: &[u8]) -> Verdict
+    ensures verdict { λ r. ⌜ r ≡ verdictOf (partOf profile .rom) (now (image .entry)) (now (cert .entry)) ⌝ }
+    ensures exact { λ r. ⌜ Exact (partOf profile .rom) (now (image .entry)) (now (cert .entry)) r ⌝ }
+    ensures safe { λ r. ⌜ (r ≡ Accepted → Demand3 (partOf profile) (certificateOf (now (cert .entry))) (now (image .entry))) ⌝ }
+{
+    verdict_for(base::rom_length(profile), image, cert)
+}
+
+// The configuration of a part and a certificate: what a machine must be given beside the image for demand 3 to speak of its runs.
+pub fn configuration_of(profile: Profile, cert: &[u8]) -> Configuration
+    ensures { λ r. ⌜ setupOf r ≡ setupFor (partOf profile) (certificateOf (now (cert .entry))) ⌝ }
 {
     Configuration {
+        profile: profile,
         entry_cost: entries::entry_cost(cert),
     }
 }

@@ -1,10 +1,10 @@
 -- The register file: which addresses are mapped, what a read gives and what a write leaves (01, "Memories").
 -- Assumes nothing.
-use Prim.Native.Nat.{ℕ, _%_}
-use mathlib.Core.List.{List, [], _∷_, map}
-use mathlib.Core.Bool.{Bool, false, _||_}
+use Prim.Native.Nat.{ℕ, _/_, _%_}
+use mathlib.Core.List.{List, [], _∷_, _++_, map}
+use mathlib.Core.Bool.{Bool, false, _||_, _&&_}
 use lib.ListN.{getD, set}
-use lib.Dec.{ltb, eqb}
+use lib.Dec.{ltb, leb, eqb}
 use lib.Bits.{bitAnd, bitOr}
 use Rattle.base.specs.Choice.{pick, choose}
 
@@ -35,16 +35,24 @@ testRegister a = eqb a 0xDE
 unfoldable pub mappedOf : ℕ → Bool
 mappedOf a = _||_ (ltb a 0xD0) (_||_ (among a (map (λ (e : ℕ × ℕ). e .0) keptRows)) (_||_ (readOnly a) (testRegister a)))
 
--- what a step reads from bytes 1 to 7 of its schedule record r ("One step")
-abbrev pub inputRows : List ℕ → List (ℕ × ℕ)
-inputRows r =
-    (0xE0, getD r 1 0) ∷ (0xE1, getD r 2 0 % 8) ∷ (0xE2, getD r 3 0 % 128) ∷ (0xD0, getD r 4 0) ∷ (0xDD, getD r 5 0)
-    ∷ (0xF8, getD r 6 0) ∷ (0xF9, getD r 7 0 % 4) ∷ []
+-- the inputs of a step: the 8 bytes of its schedule record, and a ninth, 1 on a part whose A/D inputs from 3 on are grounded, else 0 (request 04)
+abbrev pub inputsOf : Bool → List ℕ → List ℕ
+inputsOf grounds rec = rec ++ (pick grounds 1 0 ∷ [])
 
--- what a step with schedule record r reads at a: the byte in RAM, the record's input, else the kept bits
+-- request 04: "Reading F8H or F9H gives 0 while ADCON.7-.4 is 3 or more, since those inputs are grounded there". ADCON is F7H, as it is at the read
+unfoldable pub groundedNow : List ℕ → List ℕ → Bool
+groundedNow regs r = eqb (getD r 8 0) 1 && leb 3 (getD regs 0xF7 0 / 16)
+
+-- what a step with inputs r reads from bytes 1 to 7 of its schedule record ("One step")
+abbrev pub inputRows : List ℕ → List ℕ → List (ℕ × ℕ)
+inputRows regs r =
+    (0xE0, getD r 1 0) ∷ (0xE1, getD r 2 0 % 8) ∷ (0xE2, getD r 3 0 % 128) ∷ (0xD0, getD r 4 0) ∷ (0xDD, getD r 5 0)
+    ∷ (0xF8, pick (groundedNow regs r) 0 (getD r 6 0)) ∷ (0xF9, pick (groundedNow regs r) 0 (getD r 7 0 % 4)) ∷ []
+
+-- what a step with inputs r reads at a: the byte in RAM, the record's input, else the kept bits
 unfoldable pub loadOf : List ℕ → List ℕ → ℕ → ℕ
 loadOf regs r a =
-    pick (ltb a 0xD0) (getD regs a 0) (choose a (inputRows r) (bitAnd (getD regs a 0) (keptBits a)))
+    pick (ltb a 0xD0) (getD regs a 0) (choose a (inputRows regs r) (bitAnd (getD regs a 0) (keptBits a)))
 
 -- F7H: bit 3 stays, except that writing 1 to bit 0 clears it
 abbrev pub writtenF7 : ℕ → ℕ → ℕ

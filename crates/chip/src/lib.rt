@@ -1,6 +1,7 @@
-// The register file of the S3F9454: which addresses are mapped, what a read gives, what a write leaves, reset.
+// The register file: which addresses are mapped, a step's inputs, what a read gives, what a write leaves, reset.
 ghost use mathlib.Core.Path.{_≡_};
-ghost use Rattle.chip.specs.Registers.{keptBits, mappedOf, loadOf, writtenF7, writtenOf, keptOf, storeOf};
+ghost use Rattle.base.specs.Choice.{pick};
+ghost use Rattle.chip.specs.Registers.{keptBits, mappedOf, inputsOf, groundedNow, loadOf, writtenF7, writtenOf, keptOf, storeOf};
 ghost use Rattle.chip.specs.Reset.{resetRegisters};
 ghost use Rattle.chip.specs.Words.{keptWord};
 use base::RegAddr;
@@ -8,8 +9,35 @@ use base::RegAddr;
 // The register file: a byte for each address.
 pub type Registers = [u8; 256];
 
-// The inputs of a step: the bytes of its schedule record.
-pub type Inputs = [u8; base::RECORD_LENGTH];
+// A schedule record.
+pub type Record = [u8; base::RECORD_LENGTH];
+
+// The inputs of a step: the bytes of its schedule record, and one that is 1 on a part whose A/D inputs from 3 on are grounded, else 0.
+pub type Inputs = [u8; base::RECORD_LENGTH + 1];
+
+// The last of a step's inputs.
+fn last_input(grounds: bool) -> u8
+    ensures { λ r. ⌜ r ≡ pick grounds 1 0 ⌝ }
+{
+    if grounds { 1 } else { 0 }
+}
+
+// The inputs of a step under a record, on a part that grounds those A/D inputs or not.
+pub fn inputs(grounds: bool, rec: Record) -> Inputs
+    ensures { λ r. ⌜ r ≡ inputsOf grounds rec ⌝ }
+{
+    [
+        rec[0],
+        rec[1],
+        rec[2],
+        rec[3],
+        rec[4],
+        rec[5],
+        rec[6],
+        rec[7],
+        last_input(grounds),
+    ]
+}
 
 // Whether a is RAM or a control register.
 pub fn mapped(a: RegAddr) -> bool
@@ -45,7 +73,21 @@ fn kept_bits(n: u8) -> u8
     ((kept_word(n / 8) >> k) % 256) as u8
 }
 
-// What a step with schedule record rec reads at a.
+// Whether the A/D input that ADCON selects is grounded.
+fn grounded_now(regs: &Registers, rec: &Inputs) -> bool
+    ensures { λ r. ⌜ r ≡ groundedNow (now (regs .entry)) (now (rec .entry)) ⌝ }
+{
+    (rec[8] == 1) & (3 <= regs[0xF7] / 16)
+}
+
+// What a read of the A/D result gives, where v is the record's.
+fn converted(regs: &Registers, rec: &Inputs, v: u8) -> u8
+    ensures { λ r. ⌜ r ≡ pick (groundedNow (now (regs .entry)) (now (rec .entry))) 0 v ⌝ }
+{
+    if grounded_now(regs, rec) { 0 } else { v }
+}
+
+// What a step with inputs rec reads at a.
 pub fn load(regs: &Registers, rec: &Inputs, a: RegAddr) -> u8
     ensures { λ r. ⌜ r ≡ loadOf (now (regs .entry)) (now (rec .entry)) (a .0) ⌝ }
 {
@@ -60,8 +102,8 @@ pub fn load(regs: &Registers, rec: &Inputs, a: RegAddr) -> u8
         0xE2 => rec[3] % 128,
         0xD0 => rec[4],
         0xDD => rec[5],
-        0xF8 => rec[6],
-        0xF9 => rec[7] % 4,
+        0xF8 => converted(regs, rec, rec[6]),
+        0xF9 => converted(regs, rec, rec[7] % 4),
         _ => regs[i] & kept_bits(n),
     }
 }

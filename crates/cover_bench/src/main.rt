@@ -1,7 +1,8 @@
 // Runs with a coverage map, and summaries, to be timed: `cover_bench WHAT COUNT SEED`. Rows 1 to 3 are those of `machine_bench` with a map, COUNT thousands of
 // records; row 4 is COUNT summaries. A program of its own, since `run` takes other instructions in a program that also has `run_covered`.
-use base::IMAGE_LENGTH;
+use base::IMAGE_4K;
 use base::LONG_CERTIFICATE_LENGTH;
+use base::Profile;
 use bench_programs::SCHEDULE;
 use bench_programs::program;
 use bench_programs::schedule;
@@ -16,12 +17,15 @@ use uncovered::Lowest;
 
 // The program from reset for `parts` parts, with one map.
 fn cover_parts(
-    image: &[u8; IMAGE_LENGTH],
+    image: &[u8; IMAGE_4K],
     records: &[u8; SCHEDULE],
     map: &mut Map,
     parts: u64,
 ) -> State {
-    let configuration = Configuration { entry_cost: 0 };
+    let configuration = Configuration {
+        profile: Profile::Rom4K,
+        entry_cost: 0,
+    };
     let mut state = machine::reset();
     let mut left = parts;
     while left > 0 {

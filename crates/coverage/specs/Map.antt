@@ -9,7 +9,7 @@ use lib.Bits.{bitOr}
 use lib.Count.{ones}
 use lib.Dec.{eqb, ltb}
 use Rattle.base.specs.Choice.{pick, from, count}
-use Rattle.base.specs.Lengths.{romLength}
+use Rattle.base.specs.Lengths.{largestRom}
 
 -- the words of a map
 abbrev pub mapWords : ℕ
@@ -53,7 +53,7 @@ joined m n = map (λ w. bitOr (getD m w 0) (getD n w 0)) (from mapWords 0)
 
 -- "the number of distinct marked addresses"
 unfoldable pub markedCount : List ℕ → ℕ
-markedCount m = count (marked m) (from romLength 0)
+markedCount m = count (marked m) (from largestRom 0)
 
 -- the set bits of the words, word by word
 unfoldable pub setBits : List ℕ → ℕ

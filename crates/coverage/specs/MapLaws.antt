@@ -15,7 +15,7 @@ use lib.Count.{ones}
 use borrow.Author.Tests.{eqb-true}
 use lib.Dec.{eqb, ltb→lt}
 use Rattle.base.specs.Choice.{pick, from, count}
-use Rattle.base.specs.Lengths.{romLength}
+use Rattle.base.specs.Lengths.{largestRom}
 use Rattle.base.specs.Table.{table-at}
 use Rattle.base.specs.Formula.{eqb-no, eqb-yes, of-true, case-bool, same?, le?}
 use Rattle.coverage.specs.Map.{mapWords, bitOf, marked, inside, withMark, bitsFrom, mapOf, emptyMap, joined, markedCount, setBits}
@@ -102,7 +102,7 @@ unfolding mapOf
 length-map-of f = refl
 
 -- that map marks what passes the test
-pub marked-map-of : (f : ℕ → Bool) (a : ℕ) → a < romLength → marked (mapOf f) a ≡ f a
+pub marked-map-of : (f : ℕ → Bool) (a : ℕ) → a < largestRom → marked (mapOf f) a ≡ f a
 unfolding marked
 marked-map-of f a h =
     rw (word-of f (a / 64) (omega arith)) (bits-from 64 f (64 * (a / 64)) (a % 64) (omega arith) ∙ ap f (omega arith))
@@ -120,7 +120,7 @@ abbrev pub Words : List ℕ → Type 0
 Words m = (w : ℕ) → getD m w 0 < 2 ^ 64
 
 -- a map is given by its marks
-pub map-of-marks : (m : List ℕ) (f : ℕ → Bool) → length m ≡ mapWords → Words m → ((a : ℕ) → a < romLength → marked m a ≡ f a) → m ≡ mapOf f
+pub map-of-marks : (m : List ℕ) (f : ℕ → Bool) → length m ≡ mapWords → Words m → ((a : ℕ) → a < largestRom → marked m a ≡ f a) → m ≡ mapOf f
 map-of-marks m f size small h = ext-getD 0 m (mapOf f) (size ∙ sym (length-map-of f)) (λ w l. word w (rw size at l))
   where
     word : (w : ℕ) → w < mapWords → getD m w 0 ≡ getD (mapOf f) w 0
@@ -158,25 +158,25 @@ length-joined m n = refl
 
 -- maps with the same marks are equal
 pub same-marks : (m n : List ℕ) → length m ≡ mapWords → length n ≡ mapWords → Words m → Words n
-    → ((a : ℕ) → a < romLength → marked m a ≡ marked n a) → m ≡ n
+    → ((a : ℕ) → a < largestRom → marked m a ≡ marked n a) → m ≡ n
 same-marks m n size size′ small small′ h = map-of-marks m (marked n) size small h ∙ sym (map-of-marks n (marked n) size′ small′ (λ a l. refl))
 
 -- tests that agree give the same map
-pub same-map-of : (f g : ℕ → Bool) → ((a : ℕ) → a < romLength → f a ≡ g a) → mapOf f ≡ mapOf g
+pub same-map-of : (f g : ℕ → Bool) → ((a : ℕ) → a < largestRom → f a ≡ g a) → mapOf f ≡ mapOf g
 same-map-of f g h = map-of-marks (mapOf f) g (length-map-of f) (words-map-of f) (λ a l. marked-map-of f a l ∙ h a l)
 
 -- a map of 64 words marks nothing past ROM
-pub marked-past : (m : List ℕ) (a : ℕ) → length m ≡ mapWords → romLength ≤ a → marked m a ≡ false
+pub marked-past : (m : List ℕ) (a : ℕ) → length m ≡ mapWords → largestRom ≤ a → marked m a ≡ false
 unfolding marked
 marked-past m a size h = rw (List·getD-eq-default m 0 {n = a / 64} (rw size (omega (arith, h))), zero-div (2 ^ (a % 64)))
 
 -- nor does the empty map
-pub marked-empty : (a : ℕ) → a < romLength → marked emptyMap a ≡ false
+pub marked-empty : (a : ℕ) → a < largestRom → marked emptyMap a ≡ false
 unfolding marked emptyMap
 marked-empty a h = rw (getD-replicate {A = ℕ} mapWords (a / 64) 0 0 (omega (arith, h)), zero-div (2 ^ (a % 64)))
 
 -- two maps joined mark what each marks
-pub marked-joined : (m n : List ℕ) (a : ℕ) → a < romLength → marked (joined m n) a ≡ (marked m a || marked n a)
+pub marked-joined : (m n : List ℕ) (a : ℕ) → a < largestRom → marked (joined m n) a ≡ (marked m a || marked n a)
 unfolding marked joined
 marked-joined m n a h =
     rw (table-at (λ w. bitOr (getD m w 0) (getD n w 0)) 0 mapWords (joined m n) refl (a / 64) (omega arith))

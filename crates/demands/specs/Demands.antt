@@ -5,7 +5,7 @@
 --   `start` started; `feed` feedStream, feedBuffer; `finish` finishAnswer; `write_image` writeAnswer, writeBuffer;
 --   `upper_line` upperAnswer, upperLine; `fill` fillAnswer, fillBuffer;
 --   `reset` resetState; `step` stepOf; `run` runOf; `run_covered` coveredRun, coveredMap; `count` markedCount;
---   `check` verdictOf; `configuration_of` configurationOf; `lowest_unmarked` lowestOf;
+--   `check` verdictOf; `configuration_of` setupFor; `lowest_unmarked` lowestOf;
 --   `write_report` reportAnswer, reportBuffer; `judge_texts` printedAnswer, printedBuffer.
 -- `judge_files` promises what `judge_texts` does of some two texts: no contract can say what a file holds.
 -- A call reaches no memory but what it is lent: the language has no other.
@@ -21,7 +21,9 @@ use borrow.Author.Tests.{lt-ltb}
 use Rattle.base.specs.declared.RomAddr.{RomAddr}
 use Rattle.base.specs.Cells.{Bytes}
 use Rattle.base.specs.Choice.{pick}
-use Rattle.base.specs.Lengths.{romLength, recordLength}
+use Rattle.base.specs.declared.Profile.{Profile}
+use Rattle.base.specs.Lengths.{largestRom, recordLength}
+use Rattle.base.specs.Parts.{Part, partOf}
 use Rattle.base.specs.Outcome.{Outcome}
 use Rattle.base.specs.Outcome.Outcome.{value, refused}
 use Rattle.isa.specs.declared.FlagSet.{FlagSet}
@@ -38,8 +40,8 @@ use Rattle.encode.specs.Refusals.{encode-number, encode-unchanged, length-encod
 use Rattle.roundtrip.specs.RoundTrip.{re-encoded}
 use Rattle.roundtrip.specs.Copy.{copyAnswer, copyInto}
 use Rattle.roundtrip.specs.Refusals.{copy-number, copy-unchanged, length-copyInto}
-use Rattle.semantics.specs.declared.Configuration.{Configuration}
 use Rattle.semantics.specs.declared.State.{State}
+use Rattle.semantics.specs.Setup.{Setup}
 use Rattle.semantics.specs.Step.{validMachine, stepOf}
 use Rattle.semantics.specs.Run.{ran, runOf}
 use Rattle.semantics.specs.Refusals.{StepNumber, Stops, step-stops, run-number}
@@ -123,9 +125,9 @@ pub fill-lends : (seed : ℕ) (out : List ℕ) → Lends (λ n. n ≡ 7) (fillAn
 fill-lends seed out =
     record { number = fill-number seed (length out); unchanged = fill-unchanged seed out; size = length-fillBuffer seed out }
 
-pub write-image-lends : (m out : List ℕ) → Lends (λ n. n ≡ 7) (writeAnswer (length m) (length out)) out (writeBuffer m out)
-write-image-lends m out =
-    record { number = write-number (length m) (length out); unchanged = write-unchanged m out; size = length-writeBuffer m out }
+pub write-image-lends : (rom : ℕ) (m out : List ℕ) → Lends (λ n. n ≡ 7) (writeAnswer rom (length m) (length out)) out (writeBuffer rom m out)
+write-image-lends rom m out =
+    record { number = write-number rom (length m) (length out); unchanged = write-unchanged rom m out; size = length-writeBuffer rom m out }
 
 pub write-report-lends : (verdict : Verdict) (cert out : List ℕ)
     → Lends (λ n. n ≡ 7) (reportAnswer verdict cert (length out)) out (reportBuffer verdict cert out)
@@ -146,34 +148,34 @@ judge-texts-lends image certificate out =
     }
 
 -- a refused step leaves the state before it, requests included
-pub step-stops-right : (K : Configuration) (image : List ℕ) (s : State) (rec : List ℕ) → Stops s (stepOf K image s rec .state) (stepOf K image s rec .stop)
+pub step-stops-right : (K : Setup) (image : List ℕ) (s : State) (rec : List ℕ) → Stops s (stepOf K image s rec .state) (stepOf K image s rec .stop)
 step-stops-right K image s rec = step-stops s K image rec
 
-pub run-refuses : (K : Configuration) (image : List ℕ) (s : State) (schedule : List ℕ) → StepNumber (runOf K image s schedule .stop)
+pub run-refuses : (K : Setup) (image : List ℕ) (s : State) (schedule : List ℕ) → StepNumber (runOf K image s schedule .stop)
 run-refuses K image s schedule = run-number K image schedule s
 
 -- a run returns the state behind its completed steps: a step that is refused adds nothing to it
-pub run-leaves : (K : Configuration) (image schedule : List ℕ) (s : State)
+pub run-leaves : (K : Setup) (image schedule : List ℕ) (s : State)
     → runOf K image s schedule .state ≡ stateBehind (completedSteps K image s schedule) K image schedule 0 s
 run-leaves = run-state
 
 -- a run with a coverage map: the map keeps its length. Where the configuration or a length is wrong, it is refused by 7; and where it is refused by 7, the map is as it was
-pub covered-refuses : (K : Configuration) (image : List ℕ) (s : State) (schedule m : List ℕ) → StepNumber (coveredRun K image s schedule (length m) .stop)
+pub covered-refuses : (K : Setup) (image : List ℕ) (s : State) (schedule m : List ℕ) → StepNumber (coveredRun K image s schedule (length m) .stop)
 covered-refuses = covered-number
 
-pub covered-keeps-length : (K : Configuration) (image : List ℕ) (s : State) (schedule m : List ℕ) → length (coveredMap K image s schedule m) ≡ length m
+pub covered-keeps-length : (K : Setup) (image : List ℕ) (s : State) (schedule m : List ℕ) → length (coveredMap K image s schedule m) ≡ length m
 covered-keeps-length = covered-length
 
-pub covered-invalid-refused : (K : Configuration) (image : List ℕ) (s : State) (schedule m : List ℕ) → Words m
+pub covered-invalid-refused : (K : Setup) (image : List ℕ) (s : State) (schedule m : List ℕ) → Words m
     → (isMapLength (length m) && (validMachine K image && eqb (length schedule % recordLength) 0)) ≡ false
     → (coveredRun K image s schedule (length m) ≡ ran s 0 7) × (coveredMap K image s schedule m ≡ m)
 covered-invalid-refused = covered-refused
 
-pub covered-unchanged : (K : Configuration) (image : List ℕ) (s : State) (schedule m : List ℕ) → Words m → coveredRun K image s schedule (length m) .stop ≡ 7
+pub covered-unchanged : (K : Setup) (image : List ℕ) (s : State) (schedule m : List ℕ) → Words m → coveredRun K image s schedule (length m) .stop ≡ 7
     → coveredMap K image s schedule m ≡ m
 covered-unchanged = covered-seven
 
-pub check-refuses : (image cert : List ℕ) (n : ℕ) (a : RomAddr) → verdictOf image cert ≡ Refused n a → CheckNumber n
+pub check-refuses : (rom : ℕ) (image cert : List ℕ) (n : ℕ) (a : RomAddr) → verdictOf rom image cert ≡ Refused n a → CheckNumber n
 check-refuses = verdict-number
 
 -- Demand 2. Each of the 256 first bytes decodes as the manual and 01 say, --
@@ -201,30 +203,31 @@ decoded-encodes-back = re-encoded
 pub logger-cases : AllHold cases
 logger-cases = all-hold
 
-pub steps-and-cycles : (K : Configuration) (image schedule : List ℕ) (s : State) → s .cycles < 4294967296
+pub steps-and-cycles : (K : Setup) (image schedule : List ℕ) (s : State) → s .cycles < 4294967296
     → Counted (completedSteps K image s schedule) (totalCost K image s schedule) s (runOf K image s schedule)
 steps-and-cycles = run-counted
 
 -- an image written as Intel HEX reads back to itself, --
-pub written-reads-back : (m out : List ℕ) → Bytes m → length m ≡ romLength → textLength ≤ length out
-    → (writeAnswer (length m) (length out) ≡ value textLength) × ReadsBack (value textLength) m (writeBuffer m out)
-written-reads-back m out byte size room =
-    let e = written-whole (length m) (length out) size room in
-    (e, rw e at (write-reads-back m out byte))
+pub written-reads-back : (p : Profile) (m out : List ℕ) → Bytes m → let rom = partOf p .rom in length m ≡ rom → textLength rom ≤ length out
+    → (writeAnswer rom (length m) (length out) ≡ value (textLength rom)) × ReadsBack rom (value (textLength rom)) m (writeBuffer rom m out)
+written-reads-back p m out byte size room =
+    let rom = partOf p .rom in
+    let e = written-whole rom (length m) (length out) size room in
+    (e, rw e at (write-reads-back p m out byte))
 
 -- and the checker accepts exactly when no rule of 01 is broken --
-pub accepts-exactly : (image cert : List ℕ)
-    → (verdictOf image cert ≡ Accepted → (n a : ℕ) → Broken image cert n a → ⊥)
-    × (((n a : ℕ) → Broken image cert n a → ⊥) → verdictOf image cert ≡ Accepted)
-accepts-exactly image cert = (accepted-only-when image cert, accepted-when image cert)
+pub accepts-exactly : (rom : ℕ) (image cert : List ℕ)
+    → (verdictOf rom image cert ≡ Accepted → (n a : ℕ) → Broken rom image cert n a → ⊥)
+    × (((n a : ℕ) → Broken rom image cert n a → ⊥) → verdictOf rom image cert ≡ Accepted)
+accepts-exactly rom image cert = (accepted-only-when rom image cert, accepted-when rom image cert)
 
 -- and refuses by n at a exactly when rule n is broken at a, no lower rule is broken at a, and none at a lower address
-pub refuses-exactly : (image cert : List ℕ) (n : ℕ) (a : RomAddr)
-    → (verdictOf image cert ≡ Refused n a → Reports image cert (Refused n a)) × (Reports image cert (Refused n a) → verdictOf image cert ≡ Refused n a)
-refuses-exactly image cert n a = (refused-only-when image cert n a, refused-when image cert n a)
+pub refuses-exactly : (rom : ℕ) (image cert : List ℕ) (n : ℕ) (a : RomAddr)
+    → (verdictOf rom image cert ≡ Refused n a → Reports rom image cert (Refused n a)) × (Reports rom image cert (Refused n a) → verdictOf rom image cert ≡ Refused n a)
+refuses-exactly rom image cert n a = (refused-only-when rom image cert n a, refused-when rom image cert n a)
 
 -- both, as `check` promises them
-pub check-exact : (image cert : List ℕ) → Exact image cert (verdictOf image cert)
+pub check-exact : (rom : ℕ) (image cert : List ℕ) → Exact rom image cert (verdictOf rom image cert)
 check-exact = exact
 
 -- Demand 3. If the checker accepts an image and certificate, then for every list of schedule records, whatever they request and let the machine
@@ -233,6 +236,8 @@ check-exact = exact
 -- each RET goes behind the call that opened its routine and each IRET to where its interrupt fell; all addresses that the pointer of the instruction
 -- at one ROM address (an operand's register or pair, plus its offset if it has one; SP's own traffic is the stack's) gives in the whole run lie in
 -- one declared table or, for LDC, in ROM; and from a call or interrupt entry up to and with its return, or as far as the list goes, no routine but
--- main spends more cycles of its own and its callees' than its bound --
-pub accepted-runs-safely : (image cert : List ℕ) → Bytes image → Bytes cert → verdictOf image cert ≡ Accepted → Demand3 (certificateOf cert) image
+-- main spends more cycles of its own and its callees' than its bound. The bytes of ROM are a parameter (request 04), at most as many as a certificate has
+-- entries --
+pub accepted-runs-safely : (P : Part) → P .rom ≤ largestRom → (image cert : List ℕ) → Bytes image → Bytes cert
+    → verdictOf (P .rom) image cert ≡ Accepted → Demand3 P (certificateOf cert) image
 accepted-runs-safely = demand3

@@ -2,19 +2,23 @@
 -- Assumes nothing.
 use Prim.Native.Nat.{ℕ, _+_, _-_, _/_, _%_, _^_, _≤_, _<_}
 use mathlib.Core.Path.{_≡_, refl, ap}
-use mathlib.Core.Bool.{Bool, true, false, _||_}
+use mathlib.Core.Bool.{Bool, true, false, _||_, _&&_}
 use mathlib.Core.Logic.{_≢_, _⊎_}
 use mathlib.Core.List.{List, [], _∷_, _++_}
 use native.Mathlib.Omega.{arith}
 use lib.Bits.{bitAnd}
+use lib.Dec.{leb}
 use lib.ListN.{length, getD}
 use Rattle.base.specs.declared.RegAddr.{RegAddr}
 use Rattle.base.specs.declared.RomAddr.{RomAddr}
 use Rattle.base.specs.Addresses.{flagsCell, romAddr}
 use Rattle.base.specs.Cells.{Bytes}
 use Rattle.base.specs.Choice.{from, count}
-use Rattle.base.specs.Formula.{Holds, eqb-yes}
-use Rattle.base.specs.Lengths.{romLength, recordLength, shortCertificateLength, longCertificateLength, isImageLength, isCertificateLength, isEntryCost}
+use Rattle.base.specs.Formula.{Holds, eqb-yes, eqb-no, ltb-no}
+use Rattle.base.specs.declared.Profile.{Profile}
+use Rattle.base.specs.declared.Profile.the-variants.{Rom4K, Rom2K}
+use Rattle.base.specs.Lengths.{largestRom, recordLength, shortCertificateLength, longCertificateLength, isCertificateLength, isEntryCost}
+use Rattle.base.specs.Parts.{Part, partOf, rom-fits}
 use Rattle.base.specs.Outcome.Outcome.{value, refused}
 use Rattle.isa.specs.declared.Flag.{Flag}
 use Rattle.isa.specs.declared.FlagSet.{FlagSet}
@@ -31,17 +35,22 @@ use Rattle.roundtrip.specs.EncodedDecodes.{encoded-decodes}
 use Rattle.action.specs.declared.CodeAddress.{CodeAddress}
 use Rattle.action.specs.declared.Action.{Action}
 use Rattle.action.specs.Action.{actionOf}
-use Rattle.chip.specs.Registers.{storeOf}
+use Rattle.chip.specs.Registers.{inputsOf, loadOf, storeOf}
+use Rattle.chip.specs.Laws.{grounded-reads-0, ungrounded-reads-record, other-reads-same}
 use Rattle.semantics.specs.Operands.{withFlags}
+use Rattle.semantics.specs.Execute.{codeAddress, loadCodeOf}
 use Rattle.semantics.specs.declared.Configuration.{Configuration}
+use Rattle.semantics.specs.Setup.{Setup, setupOf}
+use Rattle.semantics.specs.declared.Mode.the-variants.{Running}
 use Rattle.semantics.specs.declared.State.{State}
-use Rattle.semantics.specs.Step.{refuse, requested, entryDue, entryCost, vectorOf, behind, validMachine, stepOf}
+use Rattle.semantics.specs.Step.{refuse, requested, entryDue, vectorOf, behind, validMachine, stepOf}
 use Rattle.semantics.specs.Run.{ran, recordAt, runOf}
 use Rattle.semantics.specs.Refusals.{step-stops}
 use Rattle.coverage.specs.Map.{mapWords, marked, emptyMap, joined, markedCount, setBits}
 use Rattle.coverage.specs.MapLaws.{Words, same-marks, marked-joined, marked-past, set-bits-counted}
 use Rattle.machine.specs.Count.{costOf}
 use Rattle.machine.specs.EntryLaws.{entry-cost, entry-adds, SameButCycles, other-step, only-cycles, step-above, run-above, covered-above}
+use Rattle.machine.specs.PartLaws.{step-of-other-length, run-of-other-length, covered-of-other-length, fetch-past-rom}
 use Rattle.machine.specs.Reached.{reached, coveredRun, coveredMap}
 use Rattle.machine.specs.CoveredLaws.{Reaches, mark-stays, completed-marked, no-other-mark, covered-joins, covered-count}
 use Rattle.machine.specs.AppendLaws.{run-in-turn, run-stopped, covered-in-turn, covered-stopped}
@@ -51,7 +60,7 @@ use Rattle.certificate.specs.declared.Flow.the-variants.{Step, Call}
 use Rattle.certificate.specs.declared.Verdict.the-variants as verdict
 use Rattle.certificate.specs.Layout.{Certificate, certificateFrom, certificateOf}
 use Rattle.certificate.specs.Summaries.{range, codeAccess}
-use Rattle.safety.specs.Rules.{noCell, ramEnd, Edge, low, high, worst, codeInRom, changeOf, rule20, edge26, rule26, openingCost}
+use Rattle.safety.specs.Rules.{noCell, ramEnd, Edge, low, high, worst, codeInRom, changeOf, emptyEntry, rule20, edge26, rule26, openingCost}
 use Rattle.safety.specs.Rules.Change.{changed}
 use Rattle.safety.specs.CodeRange.{loadRange}
 use Rattle.safety.specs.CodeRangeLaws.{Reaches as CodeReaches, ReachedByte, SetInRom, set-in-rom, whole-set-in-rom, unclaimed}
@@ -60,9 +69,11 @@ use Rattle.safety.specs.CodeLoads.{code-of-load, code-of-step, destination-of-l
 use Rattle.safety.specs.Verdicts.{summaryAt, verdictOf, Broken}
 use Rattle.safety.specs.EntryCost as cost
 use Rattle.safety.specs.SmallerCost.{smaller-cost, smaller-cost-safe}
+use Rattle.safety.specs.SmallPart.{image-of-other-length, entry-past-rom, byte-past-rom, bytes-past-rom}
 use Rattle.safety.specs.Formerly as formerly
 use Rattle.safety.specs.Formerly.{verdictFormerly}
-use Rattle.safety.specs.Statement.{Schedule, Open, entered, spent, configurationOf, Demand3}
+use Rattle.safety.specs.Statement.{Schedule, Open, entered, spent, setupFor, Demand3}
+use Rattle.safety.specs.Theorem.{demand3}
 use Rattle.flag_names.specs.Stores.{storesFlags}
 use Rattle.flag_names.specs.Kept.{flagsIn, unnamed-kept, iret-named, iret-loads}
 use Rattle.flag_names.specs.Witnesses.{ChangedBy, named-changed}
@@ -70,6 +81,8 @@ use Rattle.flag_names.specs.Compares.{EdgeFollows, CallFollows, compare-survive
 use Rattle.logger_cases.specs.EntryCost as entering
 use Rattle.logger_cases.specs.Linearised as linearised
 use Rattle.logger_cases.specs.Program as program
+use Rattle.logger_cases.specs.Program.{certificateWith}
+use Rattle.logger_cases.specs.SmallPart as smallPart
 use Rattle.uncovered.specs.declared.Lowest.the-variants.{At, AllMarked, Refused}
 use Rattle.uncovered.specs.Lowest.{lowestOf, LowestStart}
 use Rattle.uncovered.specs.LowestLaws.{lowest-at, at-lowest, all-marked, marked-all, lowest-refused, refused-length}
@@ -80,11 +93,14 @@ use Rattle.hex_line.specs.Line.{bufferLength, readLine, lineBuffer}
 use Rattle.hex_line.specs.Sum.{AllPairs, totalOf}
 use Rattle.hex_line.specs.SumLaws as sums
 use Rattle.hex_text.specs.Text.{textAnswer}
+use Rattle.hex_write.specs.ImageText as written
+use Rattle.hex_write.specs.ImageText.{recordCount, textLength, writeAnswer, writeBuffer}
+use Rattle.hex_write.specs.Refusals.{write-unchanged}
 use Rattle.hex_upper.specs.Former.{smallLetter, NoSmall, formerLine, formerBuffer}
 use Rattle.hex_upper.specs.Upper.{upperAnswer, upperLine}
 use Rattle.hex_upper.specs.SmallLetters as small
 use Rattle.hex_upper.specs.UpperTheorems as upper
-use Rattle.judge.specs.Judgement.{blankCertificate}
+use Rattle.judge.specs.Judgement.{blankImage, blankCertificate}
 use Rattle.judge.specs.JudgementLaws.{length-filled}
 use Rattle.xorshift.specs.Xorshift.{round, recordFrom, recordsFrom, stateAfter, fillAnswer, fillBuffer}
 use Rattle.xorshift.specs.RecordLaws.{length-records, records-bytes, record-made, no-other-bit}
@@ -119,34 +135,34 @@ unfolding certificateFrom
 byte-is-the-cost cert x h = ap (λ (C : Certificate). C .entryCost) (cost.byte-behind cert x h)
 
 -- the entry step costs that much: if it is not refused, the configuration's number is added to the cycle total
-pub entry-costs : (K : Configuration) (image : List ℕ) (s : State) (rec : List ℕ) → s .cycles < 4294967296 → entryDue (requested s rec) (s .mode) ≡ true
-    → stepOf K image s rec .stop ≡ 0 → stepOf K image s rec .state .cycles ≡ (s .cycles + entryCost K) % 4294967296
+pub entry-costs : (K : Setup) (image : List ℕ) (s : State) (rec : List ℕ) → s .cycles < 4294967296 → entryDue (requested s rec) (s .mode) ≡ true
+    → stepOf K image s rec .stop ≡ 0 → stepOf K image s rec .state .cycles ≡ (s .cycles + K .entryCost) % 4294967296
 entry-costs = entry-adds
 
 -- in a run's total (`steps-and-cycles` of `Demands.antt`) such a step counts with the same number
-pub entry-counted : (K : Configuration) (image : List ℕ) (s : State) (rec : List ℕ) → entryDue (requested s rec) (s .mode) ≡ true
-    → costOf K image s rec ≡ entryCost K
+pub entry-counted : (K : Setup) (image : List ℕ) (s : State) (rec : List ℕ) → entryDue (requested s rec) (s .mode) ≡ true
+    → costOf K image s rec ≡ K .entryCost
 entry-counted = entry-cost
 
 -- a refused entry, as any refused step, leaves the state before it, so it costs nothing
-pub refused-entry-costs-nothing : (K : Configuration) (image : List ℕ) (s : State) (rec : List ℕ) → stepOf K image s rec .stop ≢ 0
+pub refused-entry-costs-nothing : (K : Setup) (image : List ℕ) (s : State) (rec : List ℕ) → stepOf K image s rec .stop ≢ 0
     → stepOf K image s rec .state ≡ s
 refused-entry-costs-nothing K image s rec = step-stops s K image rec .unchanged
 
 -- a step that is no entry is the same whatever an entry costs
-pub other-steps-same : (K K′ : Configuration) (image : List ℕ) (s : State) (rec : List ℕ) → validMachine K image ≡ validMachine K′ image
+pub other-steps-same : (K K′ : Setup) (image : List ℕ) (s : State) (rec : List ℕ) → K .part ≡ K′ .part → validMachine K image ≡ validMachine K′ image
     → entryDue (requested s rec) (s .mode) ≡ false → stepOf K image s rec ≡ stepOf K′ image s rec
 other-steps-same = other-step
 
 -- and of an entry the cycle total alone depends on it: registers, program counter, mode and number do not
-pub only-the-total : (K K′ : Configuration) (image : List ℕ) (s : State) (rec : List ℕ) → validMachine K image ≡ validMachine K′ image
+pub only-the-total : (K K′ : Setup) (image : List ℕ) (s : State) (rec : List ℕ) → K .part ≡ K′ .part → validMachine K image ≡ validMachine K′ image
     → SameButCycles (stepOf K image s rec) (stepOf K′ image s rec)
 only-the-total = only-cycles
 
--- demand 3 speaks of runs that got the certificate's number: `Demand3` has steps and runs with `configurationOf` alone. There the service opens with that
+-- demand 3 speaks of runs that got the certificate's number: `Demand3` has steps and runs with `setupFor` alone. There the service opens with that
 -- number, and nobody else is charged
-pub certificate-number : (C : Certificate) → entryCost (configurationOf C) ≡ C .entryCost
-certificate-number C = refl
+pub certificate-number : (P : Part) (C : Certificate) → setupFor P C .entryCost ≡ C .entryCost
+certificate-number P C = refl
 
 pub service-opens-with : (C : Certificate) (image : List ℕ) (s : State) (o : Open) → spent C image entered s o .inner .cycles ≡ C .entryCost
 service-opens-with = cost.entry-opens
@@ -155,7 +171,7 @@ pub nobody-else-charged : (C : Certificate) (image : List ℕ) (s : State) (o : 
 nobody-else-charged = cost.nobody-else
 
 -- the service's bound covers it: at least this byte plus its start's bound (`worst`, where the vector points), else 27 is broken there
-pub service-bound-covers : (image cert : List ℕ) → verdictOf image cert ≡ verdict.Accepted
+pub service-bound-covers : (rom : ℕ) (image cert : List ℕ) → rom ≤ largestRom → verdictOf rom image cert ≡ verdict.Accepted
     → let C = certificateOf cert in C .entryCost + worst C (vectorOf image) ≤ C .bound 2
 service-bound-covers = cost.service-bound-covers
 
@@ -163,15 +179,15 @@ service-bound-covers = cost.service-bound-covers
 pub other-rows-stay : (C : Certificate) (n : ℕ) → n ≢ 2 → openingCost C n ≡ 0
 other-rows-stay = cost.others-open-free
 
-pub bound-too-small : (image cert : List ℕ) → let C = certificateOf cert in Holds (rule20 C image)
-    → (C .entryCost + worst C (vectorOf image) ≤ C .bound 2 → ⊥) → Broken image cert 27 (vectorOf image)
+pub bound-too-small : (rom : ℕ) (image cert : List ℕ) → let C = certificateOf cert in Holds (rule20 C rom image)
+    → (C .entryCost + worst C (vectorOf image) ≤ C .bound 2 → ⊥) → Broken rom image cert 27 (vectorOf image)
 bound-too-small = cost.bound-too-small
 
 -- 58,498 bytes mean 0, and one byte more that is 0 changes no verdict
 pub short-means-0 : (cert : List ℕ) → length cert ≡ shortCertificateLength → certificateOf cert .entryCost ≡ 0
 short-means-0 = cost.short-means-zero
 
-pub byte-0-same-verdict : (image cert : List ℕ) → length cert ≡ shortCertificateLength → verdictOf image (cert ++ (0 ∷ [])) ≡ verdictOf image cert
+pub byte-0-same-verdict : (rom : ℕ) (image cert : List ℕ) → length cert ≡ shortCertificateLength → verdictOf rom image (cert ++ (0 ∷ [])) ≡ verdictOf rom image cert
 byte-0-same-verdict = cost.zero-byte-same
 
 -- `bridgecheck` reads `cert.hex` into 58,499 bytes; a HEX reader takes a certificate's buffer of either length
@@ -182,41 +198,140 @@ pub either-buffer : (bufferLength shortCertificateLength ≡ true) × (bufferLen
 either-buffer = (refl, refl)
 
 -- 20 also for a byte above 63; 7 for any other certificate length
-pub byte-above-63 : (image cert : List ℕ) → isImageLength (length image) ≡ true → isCertificateLength (length cert) ≡ true
-    → (certificateOf cert .entryCost ≤ 63 → ⊥) → verdictOf image cert ≡ verdict.Refused 20 (romAddr 0)
+pub byte-above-63 : (rom : ℕ) (image cert : List ℕ) → length image ≡ rom → isCertificateLength (length cert) ≡ true
+    → (certificateOf cert .entryCost ≤ 63 → ⊥) → verdictOf rom image cert ≡ verdict.Refused 20 (romAddr 0)
 byte-above-63 = cost.cost-above-63
 
-pub other-certificate-length : (image cert : List ℕ) → isCertificateLength (length cert) ≡ false → verdictOf image cert ≡ verdict.Refused 7 (romAddr 0)
+pub other-certificate-length : (rom : ℕ) (image cert : List ℕ) → isCertificateLength (length cert) ≡ false → verdictOf rom image cert ≡ verdict.Refused 7 (romAddr 0)
 other-certificate-length = cost.other-length
 
 -- 7 for a step's or run's number above 63, whatever the record or schedule, and nothing is done
-pub step-number-above-63 : (K : Configuration) (image : List ℕ) (s : State) → 63 < entryCost K → (rec : List ℕ)
+pub step-number-above-63 : (K : Setup) (image : List ℕ) (s : State) → 63 < K .entryCost → (rec : List ℕ)
     → stepOf K image s rec ≡ refuse s 7
 step-number-above-63 = step-above
 
-pub run-number-above-63 : (K : Configuration) (image : List ℕ) (s : State) → 63 < entryCost K → (schedule : List ℕ)
+pub run-number-above-63 : (K : Setup) (image : List ℕ) (s : State) → 63 < K .entryCost → (schedule : List ℕ)
     → runOf K image s schedule ≡ ran s 0 7
 run-number-above-63 = run-above
 
-pub covered-number-above-63 : (K : Configuration) (image : List ℕ) (s : State) → 63 < entryCost K → (schedule m : List ℕ) → Words m
+pub covered-number-above-63 : (K : Setup) (image : List ℕ) (s : State) → 63 < K .entryCost → (schedule m : List ℕ) → Words m
     → (coveredRun K image s schedule (length m) ≡ ran s 0 7) × (coveredMap K image s schedule m ≡ m)
 covered-number-above-63 = covered-above
 
 -- a figure that was rounded up does no harm: what is accepted with x cycles of an entry is accepted with fewer, and demand 3 holds of it with fewer
-pub fewer-cycles-accepted : (image cert : List ℕ) (x y : ℕ) → length cert ≡ shortCertificateLength → y ≤ x
-    → verdictOf image (cert ++ (x ∷ [])) ≡ verdict.Accepted → verdictOf image (cert ++ (y ∷ [])) ≡ verdict.Accepted
+pub fewer-cycles-accepted : (rom : ℕ) (image cert : List ℕ) (x y : ℕ) → length cert ≡ shortCertificateLength → y ≤ x
+    → verdictOf rom image (cert ++ (x ∷ [])) ≡ verdict.Accepted → verdictOf rom image (cert ++ (y ∷ [])) ≡ verdict.Accepted
 fewer-cycles-accepted = smaller-cost
 
-pub fewer-cycles-safe : (image cert : List ℕ) (x y : ℕ) → length cert ≡ shortCertificateLength → y ≤ x
-    → verdictOf image (cert ++ (x ∷ [])) ≡ verdict.Accepted → Bytes image → Bytes (cert ++ (y ∷ [])) → Demand3 (certificateOf (cert ++ (y ∷ []))) image
+pub fewer-cycles-safe : (P : Part) → P .rom ≤ largestRom → (image cert : List ℕ) (x y : ℕ) → length cert ≡ shortCertificateLength → y ≤ x
+    → verdictOf (P .rom) image (cert ++ (x ∷ [])) ≡ verdict.Accepted → Bytes image → Bytes (cert ++ (y ∷ []))
+    → Demand3 P (certificateOf (cert ++ (y ∷ []))) image
 fewer-cycles-safe = smaller-cost-safe
 
 -- image P with entries of 20 cycles: accepted with the service's bound at 30, refused with 29; with entries of 63 cycles: accepted with 73; of 64: refused
-pub p-with-entries : (verdictOf (program.imageWith 0x7B) (entering.costed 20 30) ≡ verdict.Accepted)
-    × (verdictOf (program.imageWith 0x7B) (entering.costed 20 29) ≡ verdict.Refused 27 (romAddr 0x140))
-    × (verdictOf (program.imageWith 0x7B) (entering.costed 63 73) ≡ verdict.Accepted)
-    × (verdictOf (program.imageWith 0x7B) (entering.costed 64 74) ≡ verdict.Refused 20 (romAddr 0))
+pub p-with-entries : (verdictOf program.rom (program.imageWith 0x7B) (entering.costed 20 30) ≡ verdict.Accepted)
+    × (verdictOf program.rom (program.imageWith 0x7B) (entering.costed 20 29) ≡ verdict.Refused 27 (romAddr 0x140))
+    × (verdictOf program.rom (program.imageWith 0x7B) (entering.costed 63 73) ≡ verdict.Accepted)
+    × (verdictOf program.rom (program.imageWith 0x7B) (entering.costed 64 74) ≡ verdict.Refused 20 (romAddr 0))
 p-with-entries = (entering.costed-accepted, entering.costed-refused, entering.greatest-accepted, entering.above-refused)
+
+-- Request 04. The small S3C9444. Half our older loggers carry the 2K part. A profile chosen by the caller takes images of 2048 bytes, ends ROM at 07FFH,
+-- and allows no certificate entry past that. Reading F8H or F9H gives 0 while ADCON.7-.4 is 3 or more, since those inputs are grounded there. Writing HEX
+-- gives 128 data records. `bridgecheck` stays with the 4K part. The user of either part gets the whole of demand 3, shown over the ROM length as a
+-- parameter. Checks: 7 for an image that isn't the profile's length, 20 for an entry beyond it --
+
+-- a profile is `base::Profile`; what its part has is `partOf`, and definitions go by that
+pub parts : (partOf Rom4K ≡ record { rom = 4096; grounds = false }) × (partOf Rom2K ≡ record { rom = 2048; grounds = true })
+parts = (refl, refl)
+
+-- 7 for an image that isn't the profile's length: of a step and a run nothing is done, a map and a HEX buffer stay
+pub step-other-image : (K : Setup) (image : List ℕ) (s : State) → length image ≢ K .part .rom → (rec : List ℕ) → stepOf K image s rec ≡ refuse s 7
+step-other-image = step-of-other-length
+
+pub run-other-image : (K : Setup) (image : List ℕ) (s : State) → length image ≢ K .part .rom → (schedule : List ℕ) → runOf K image s schedule ≡ ran s 0 7
+run-other-image = run-of-other-length
+
+pub covered-other-image : (K : Setup) (image : List ℕ) (s : State) → length image ≢ K .part .rom → (schedule m : List ℕ) → Words m
+    → (coveredRun K image s schedule (length m) ≡ ran s 0 7) × (coveredMap K image s schedule m ≡ m)
+covered-other-image = covered-of-other-length
+
+pub check-other-image : (rom : ℕ) (image cert : List ℕ) → length image ≢ rom → verdictOf rom image cert ≡ verdict.Refused 7 (romAddr 0)
+check-other-image = image-of-other-length
+
+pub write-other-image : (rom : ℕ) (image out : List ℕ) → length image ≢ rom
+    → (writeAnswer rom (length image) (length out) ≡ refused 7) × (writeBuffer rom image out ≡ out)
+unfolding writeAnswer
+write-other-image rom image out other =
+    let e : writeAnswer rom (length image) (length out) ≡ refused 7 = rw (eqb-no other) in
+    (e, write-unchanged rom image out 7 e)
+
+-- it ends ROM at 07FFH: a fetch past the part's ROM is 10, an LDC there 14
+pub fetch-past-rom-stops : (K : Setup) (image : List ℕ) (s : State) (rec : List ℕ) → validMachine K image ≡ true → length rec ≡ recordLength
+    → entryDue (requested s rec) (s .mode) ≡ false → s .mode ≡ Running → K .part .rom ≤ s .pc .0 → stepOf K image s rec ≡ refuse s 10
+fetch-past-rom-stops = fetch-past-rom
+
+pub load-past-rom-stops : (image : List ℕ) (rom : ℕ) → length image ≡ rom → (d : RegAddr) (c : CodeAddress) (regs inputs : List ℕ) (pc : RomAddr)
+    → rom ≤ codeAddress c regs inputs → loadCodeOf d c image regs inputs pc .next .stop ≡ 14
+unfolding loadCodeOf
+load-past-rom-stops image rom size d c regs inputs pc past = rw (ltb-no {a = codeAddress c regs inputs} {b = length image} (rw size past))
+
+-- it allows no certificate entry past that: 20 for an entry beyond it, and for any byte there that is not 0; so an accepted certificate has none
+pub entry-beyond : (rom : ℕ) (image cert : List ℕ) → length image ≡ rom → isCertificateLength (length cert) ≡ true → (a : ℕ) → rom ≤ a → a < largestRom
+    → certificateOf cert .routine a ≢ 0 → verdictOf rom image cert ≡ verdict.Refused 20 (romAddr 0)
+entry-beyond = entry-past-rom
+
+pub byte-beyond : (rom : ℕ) (image cert : List ℕ) → length image ≡ rom → isCertificateLength (length cert) ≡ true → (a : ℕ) → rom ≤ a → a < largestRom
+    → (Holds (emptyEntry (certificateOf cert) a) → ⊥) → verdictOf rom image cert ≡ verdict.Refused 20 (romAddr 0)
+byte-beyond = byte-past-rom
+
+pub none-beyond : (rom : ℕ) (image cert : List ℕ) → verdictOf rom image cert ≡ verdict.Accepted → (a : ℕ) → rom ≤ a → a < largestRom
+    → (certificateOf cert .routine a ≡ 0) × Holds (emptyEntry (certificateOf cert) a)
+none-beyond = bytes-past-rom
+
+-- reading F8H or F9H gives 0 while ADCON.7-.4 is 3 or more (`inputsOf true` are the inputs of a step on such a part); below 3, and on the 4K part, the
+-- record's byte; every other register reads the same on both
+pub grounded-input-reads-0 : (regs rec : List ℕ) → length rec ≡ recordLength → 3 ≤ getD regs 0xF7 0 / 16
+    → (loadOf regs (inputsOf true rec) 0xF8 ≡ 0) × (loadOf regs (inputsOf true rec) 0xF9 ≡ 0)
+grounded-input-reads-0 = grounded-reads-0
+
+pub other-input-reads-record : (grounds : Bool) (regs rec : List ℕ) → length rec ≡ recordLength → (grounds && leb 3 (getD regs 0xF7 0 / 16)) ≡ false
+    → (loadOf regs (inputsOf grounds rec) 0xF8 ≡ getD rec 6 0) × (loadOf regs (inputsOf grounds rec) 0xF9 ≡ getD rec 7 0 % 4)
+other-input-reads-record = ungrounded-reads-record
+
+pub other-registers-same : (regs rec : List ℕ) (a : ℕ) → length rec ≡ recordLength → a ≢ 0xF8 → a ≢ 0xF9
+    → loadOf regs (inputsOf true rec) a ≡ loadOf regs (inputsOf false rec) a
+other-registers-same = other-reads-same
+
+-- writing HEX gives 128 data records, 5,644 bytes with the end line; `written-reads-back` of `Demands.antt` is for both parts
+pub record-counts : (recordCount (partOf Rom4K .rom) ≡ 256) × (recordCount (partOf Rom2K .rom) ≡ 128)
+record-counts = written.record-counts
+
+pub text-lengths : (textLength (partOf Rom4K .rom) ≡ 11276) × (textLength (partOf Rom2K .rom) ≡ 5644)
+text-lengths = written.text-lengths
+
+-- the HEX reader goes by the lent length
+pub either-image : (bufferLength (partOf Rom4K .rom) ≡ true) × (bufferLength (partOf Rom2K .rom) ≡ true)
+either-image = (refl, refl)
+
+-- `bridgecheck` stays with the 4K part: `printed` (`judge` S`Judgement`) reads into this image, and has its verdict
+pub bridgecheck-image : length blankImage ≡ partOf Rom4K .rom
+bridgecheck-image = length-filled (partOf Rom4K .rom) 0xFF
+
+-- the user of either part gets the whole of demand 3. It is `accepted-runs-safely` of `Demands.antt`, over the ROM length as a parameter; of each part:
+pub safe-on : (p : Profile) (image cert : List ℕ) → Bytes image → Bytes cert → verdictOf (partOf p .rom) image cert ≡ verdict.Accepted
+    → Demand3 (partOf p) (certificateOf cert) image
+safe-on p = demand3 (partOf p) (rom-fits p)
+
+pub safe-on-4k : (image cert : List ℕ) → Bytes image → Bytes cert → verdictOf 4096 image cert ≡ verdict.Accepted → Demand3 (partOf Rom4K) (certificateOf cert) image
+safe-on-4k = safe-on Rom4K
+
+pub safe-on-2k : (image cert : List ℕ) → Bytes image → Bytes cert → verdictOf 2048 image cert ≡ verdict.Accepted → Demand3 (partOf Rom2K) (certificateOf cert) image
+safe-on-2k = safe-on Rom2K
+
+-- that says something: image P in 2048 bytes is accepted there, with the certificate that it has on the 4K part. `fetching-small-breaks` of
+-- `refused_programs` is refused, and demand 3 is false of it, by an LDC at 0800H that the 4K part allows
+pub p-on-2k : verdictOf 2048 smallPart.smallImage (certificateWith 364 0xA0) ≡ verdict.Accepted
+p-on-2k = smallPart.small-accepted
 
 -- Request 06. Which code has the bench reached? Testers want a map beside a run: one bit per ROM byte in 64 words of 64 bits, ascending from the first
 -- word's lowest bit, set where an instruction began, and a summary that counts the set bits. The map passed in may hold earlier runs. After a run,
@@ -224,41 +339,41 @@ p-with-entries = (entering.costed-accepted, entering.costed-refused, entering.gr
 -- The summary equals the number of distinct marked addresses, and the lowest unmarked instruction start of a given certificate is named, or none --
 
 -- the run with a map is `machine::run_covered`: it answers `coveredRun` and leaves `coveredMap`. With a map of 64 words it answers as `run`
-pub covered-as-run : (K : Configuration) (image : List ℕ) (s : State) (schedule m : List ℕ) → length m ≡ mapWords → coveredRun K image s schedule (length m) ≡ runOf K image s schedule
+pub covered-as-run : (K : Setup) (image : List ℕ) (s : State) (schedule m : List ℕ) → length m ≡ mapWords → coveredRun K image s schedule (length m) ≡ runOf K image s schedule
 unfolding coveredRun
 covered-as-run K image s schedule m size = rw (eqb-yes size)
 
 -- `marked m a` is the bit of address a. The old bits stay: a map never loses one
-pub old-bits-stay : (K : Configuration) (image : List ℕ) (s : State) (schedule m : List ℕ) → length m ≡ mapWords → (a : ℕ)
+pub old-bits-stay : (K : Setup) (image : List ℕ) (s : State) (schedule m : List ℕ) → length m ≡ mapWords → (a : ℕ)
     → marked m a ≡ true → marked (coveredMap K image s schedule m) a ≡ true
 old-bits-stay = mark-stays
 
 -- the instructions completed in this run: `Reaches` has a step below the number of completed steps that completes an instruction (`Completes`: the machine
--- runs, no entry is due, the step is not refused) and begins at the address
-pub completed-set : (K : Configuration) (image : List ℕ) (s : State) (schedule m : List ℕ) → length m ≡ mapWords → (a : ℕ)
+-- runs, no entry is due, the step is not refused) and begins at the address. A map has a bit for every address of a part's ROM (`rom-fits`)
+pub completed-set : (K : Setup) (image : List ℕ) (s : State) (schedule m : List ℕ) → length m ≡ mapWords → K .part .rom ≤ largestRom → (a : ℕ)
     → Reaches K image s schedule a → marked (coveredMap K image s schedule m) a ≡ true
 completed-set = completed-marked
 
 -- no others
-pub no-others : (K : Configuration) (image : List ℕ) (s : State) (schedule m : List ℕ) → length m ≡ mapWords → (a : ℕ)
+pub no-others : (K : Setup) (image : List ℕ) (s : State) (schedule m : List ℕ) → length m ≡ mapWords → (a : ℕ)
     → marked (coveredMap K image s schedule m) a ≡ true → (marked m a ≡ true) ⊎ Reaches K image s schedule a
 no-others = no-other-mark
 
 -- so the map's contents are given: maps of 64 words of 64 bits with the same marks are equal
 pub marks-give-the-map : (m n : List ℕ) → length m ≡ mapWords → length n ≡ mapWords → Words m → Words n
-    → ((a : ℕ) → a < romLength → marked m a ≡ marked n a) → m ≡ n
+    → ((a : ℕ) → a < largestRom → marked m a ≡ marked n a) → m ≡ n
 marks-give-the-map = same-marks
 
 -- two runs with one map, of any configurations and images and from any states, join what each marks in an empty map
-pub maps-join : (K K′ : Configuration) (image image′ : List ℕ) (s s′ : State) (a b m : List ℕ) → length m ≡ mapWords → Words m
+pub maps-join : (K K′ : Setup) (image image′ : List ℕ) (s s′ : State) (a b m : List ℕ) → length m ≡ mapWords → Words m
     → coveredMap K′ image′ s′ b (coveredMap K image s a m) ≡ joined (joined m (coveredMap K image s a emptyMap)) (coveredMap K′ image′ s′ b emptyMap)
 maps-join = covered-joins
 
-pub joined-marks : (m n : List ℕ) (a : ℕ) → a < romLength → marked (joined m n) a ≡ (marked m a || marked n a)
+pub joined-marks : (m n : List ℕ) (a : ℕ) → a < largestRom → marked (joined m n) a ≡ (marked m a || marked n a)
 joined-marks = marked-joined
 
 -- running a and then b, if a is not stopped, answers and marks as running a ++ b
-pub in-turn : (K : Configuration) (image : List ℕ) (s : State) (a b : List ℕ) → length a % recordLength ≡ 0 → length b % recordLength ≡ 0 → runOf K image s a .stop ≡ 0
+pub in-turn : (K : Setup) (image : List ℕ) (s : State) (a b : List ℕ) → length a % recordLength ≡ 0 → length b % recordLength ≡ 0 → runOf K image s a .stop ≡ 0
     → let first = runOf K image s a in
     let second = runOf K image (first .state) b in
     (runOf K image s (a ++ b) ≡ ran (second .state) (first .steps + second .steps) (second .stop))
@@ -266,21 +381,21 @@ pub in-turn : (K : Configuration) (image : List ℕ) (s : State) (a b : List ℕ
 in-turn K image s a b wa wb z = (run-in-turn K image s a b wa wb z, covered-in-turn K image s a b wa wb z)
 
 -- if it is, a ++ b stops there, and marks no more
-pub stopped-first : (K : Configuration) (image : List ℕ) (s : State) (a b : List ℕ) → length a % recordLength ≡ 0 → length b % recordLength ≡ 0
+pub stopped-first : (K : Setup) (image : List ℕ) (s : State) (a b : List ℕ) → length a % recordLength ≡ 0 → length b % recordLength ≡ 0
     → (runOf K image s a .stop ≡ 0 → ⊥)
     → (runOf K image s (a ++ b) ≡ runOf K image s a) × ((m : List ℕ) → coveredMap K image s (a ++ b) m ≡ coveredMap K image s a m)
 stopped-first K image s a b wa wb z = (run-stopped K image s a b wa wb z, covered-stopped K image s a b wa wb z)
 
--- the summary is two calls. `coverage::count` answers `markedCount`: how many of the 4096 addresses of ROM are marked. No other address is
-pub none-past-rom : (m : List ℕ) (a : ℕ) → length m ≡ mapWords → romLength ≤ a → marked m a ≡ false
+-- the summary is two calls. `coverage::count` answers `markedCount`: how many of the map's 4096 addresses are marked. No other address is
+pub none-past-rom : (m : List ℕ) (a : ℕ) → length m ≡ mapWords → largestRom ≤ a → marked m a ≡ false
 none-past-rom = marked-past
 
 -- it is the number of set bits of the words; and of a run from an empty map, the number of addresses that it reaches
 pub count-of-set-bits : (m : List ℕ) → length m ≡ mapWords → Words m → markedCount m ≡ setBits m
 count-of-set-bits = set-bits-counted
 
-pub count-of-a-run : (K : Configuration) (image : List ℕ) (s : State) (schedule : List ℕ)
-    → markedCount (coveredMap K image s schedule emptyMap) ≡ count (reached K image s schedule) (from romLength 0)
+pub count-of-a-run : (K : Setup) (image : List ℕ) (s : State) (schedule : List ℕ)
+    → markedCount (coveredMap K image s schedule emptyMap) ≡ count (reached K image s schedule) (from largestRom 0)
 count-of-a-run = covered-count
 
 -- `uncovered::lowest_unmarked` answers `lowestOf`: the address that it names is a start (its entry's routine is not 0) and unmarked, and every lower start
@@ -327,16 +442,17 @@ pub encoded-decodes-back : (before behind : List ℕ) (i : Instruction) (bs : Li
 encoded-decodes-back = encoded-decodes
 
 -- a flag not named is unchanged by the step: one that is no interrupt entry, and whose instruction does not store into FLAGS (`flag_names` S`Stores`)
-pub unnamed-flag-stays : (K : Configuration) (image : List ℕ) (s : State) (rec : List ℕ) (d : Instruction × ℕ × FlagSet) → decodeAt image (s .pc .0) ≡ value d → (g : Flag)
+pub unnamed-flag-stays : (K : Setup) (image : List ℕ) (s : State) (rec : List ℕ) (d : Instruction × ℕ × FlagSet) → decodeAt image (s .pc .0) ≡ value d → (g : Flag)
     → flagIn g (d .2 .0) ≡ false
-    → storesFlags (actionOf (d .0) (behind (s .pc) (d .1))) (requested s rec) rec (behind (s .pc) (d .1)) ≡ false
+    → storesFlags (actionOf (d .0) (behind (s .pc) (d .1))) (requested s rec) (inputsOf (K .part .grounds) rec) (behind (s .pc) (d .1)) ≡ false
     → entryDue (requested s rec) (s .mode) ≡ false
     → flagIn g (flagsIn (stepOf K image s rec .state .regs)) ≡ flagIn g (flagsIn (s .regs))
 unnamed-flag-stays = unnamed-kept
 
 -- each one named is changed by some step of that first byte without such a store
-pub named-flag-changes : (K : Configuration) → isEntryCost (entryCost K) ≡ true → (first : ℕ) → first < 256 → (g : Flag) → flagIn g (namesOf first .0) ≡ true → ChangedBy K first g
-named-flag-changes = named-changed
+pub named-flag-changes : (k : Configuration) → isEntryCost (setupOf k .entryCost) ≡ true → (first : ℕ) → first < 256 → (g : Flag)
+    → flagIn g (namesOf first .0) ≡ true → ChangedBy (setupOf k) first g
+named-flag-changes k valid = named-changed (setupOf k .entryCost) valid (k .profile)
 
 -- IRET names all four
 pub iret-names-all : (s : List ℕ) → Bytes s → (at : ℕ) (d : Instruction × ℕ × FlagSet) → decodeAt s at ≡ value d → d .0 ≡ Instruction.Implied Implied.Iret
@@ -474,21 +590,21 @@ refused-before = upper.refused-before
 
 -- `CodeReaches C a c t` (`Reaches` of `safety` S`CodeRangeLaws`) says that t is in the set: 256 × h + l + offset, h and l over the ranges of both halves at a
 -- (`low`, `high`). `loadRange` is the range of its bytes. Where 24 holds every byte that is reached lies in it
-pub reached-byte-in-range : (C : Certificate) (image : List ℕ) (a : ℕ) → length image ≡ romLength → (c : CodeAccess) → Holds (codeInRom C a c)
+pub reached-byte-in-range : (C : Certificate) (rom : ℕ) (image : List ℕ) (a : ℕ) → length image ≡ rom → (c : CodeAccess) → Holds (codeInRom C rom a c)
     → (t : ℕ) → CodeReaches C a c t → (loadRange C image a c .least ≤ getD image t 0) × (getD image t 0 ≤ loadRange C image a c .greatest)
 reached-byte-in-range = loaded-holds
 
 -- and both its ends are bytes that are reached, so they are the least and the greatest
-pub range-ends-reached : (C : Certificate) (image : List ℕ) (a : ℕ) → length image ≡ romLength → Bytes image → (c : CodeAccess) → Holds (codeInRom C a c)
+pub range-ends-reached : (C : Certificate) (rom : ℕ) (image : List ℕ) (a : ℕ) → length image ≡ rom → Bytes image → (c : CodeAccess) → Holds (codeInRom C rom a c)
     → (t : ℕ) → CodeReaches C a c t → ReachedByte C image a c (loadRange C image a c .least) × ReachedByte C image a c (loadRange C image a c .greatest)
-range-ends-reached C image a full bytes c h t r = (loaded-least C image a full bytes c h t r, loaded-greatest C image a full bytes c h t r)
+range-ends-reached C rom image a full bytes c h t r = (loaded-least C rom image a full bytes c h t r, loaded-greatest C rom image a full bytes c h t r)
 
 -- a half without a claim counts as 0 to 255
 pub half-without-claim : (C : Certificate) (a x : ℕ) → x ≢ C .firstCell a → x ≢ C .secondCell a → (low C a x ≡ 0) × (high C a x ≡ 255)
 half-without-claim = unclaimed
 
 -- a direct address reaches its one byte
-pub direct-address : (C : Certificate) (image : List ℕ) (a : ℕ) → length image ≡ romLength → Bytes image → (t : RomAddr) → t .0 < romLength
+pub direct-address : (C : Certificate) (rom : ℕ) (image : List ℕ) (a : ℕ) → length image ≡ rom → Bytes image → (t : RomAddr) → t .0 < rom
     → loadRange C image a (CodeAccess.Direct t) ≡ range (getD image (t .0) 0) (getD image (t .0) 0)
 direct-address = loaded-direct
 
@@ -521,22 +637,23 @@ pub step-tested : (C : Certificate) (image : List ℕ) (a : ℕ) (d : Instructio
 step-tested = code-of-step
 
 -- where it holds, every sum of values of both halves and the offset is an address of ROM (`SetInRom`), none of them negative
-pub set-lies-in-rom : (C : Certificate) (a : ℕ) (p : RegAddr) (up down : ℕ) → Holds (codeInRom C a (CodeAccess.Pair p up down)) → SetInRom C a (p .0) up down
+pub set-lies-in-rom : (C : Certificate) (rom a : ℕ) (p : RegAddr) (up down : ℕ) → Holds (codeInRom C rom a (CodeAccess.Pair p up down))
+    → SetInRom C rom a (p .0) up down
 set-lies-in-rom = set-in-rom
 
 -- and where they all are, it holds. The pairs are working registers, and down is at most 128
-pub rom-holds-the-set : (C : Certificate) (a : ℕ) (p : RegAddr) (up down : ℕ) → p .0 < ramEnd → down < 256
-    → low C a (p .0) ≤ high C a (p .0) → low C a (p .0 + 1) ≤ high C a (p .0 + 1) → SetInRom C a (p .0) up down
-    → Holds (codeInRom C a (CodeAccess.Pair p up down))
+pub rom-holds-the-set : (C : Certificate) (rom a : ℕ) → rom ≤ largestRom → (p : RegAddr) (up down : ℕ) → p .0 < ramEnd → down < 256
+    → low C a (p .0) ≤ high C a (p .0) → low C a (p .0 + 1) ≤ high C a (p .0 + 1) → SetInRom C rom a (p .0) up down
+    → Holds (codeInRom C rom a (CodeAccess.Pair p up down))
 rom-holds-the-set = whole-set-in-rom
 
 -- an old certificate that was accepted stays accepted; `verdictFormerly` is the verdict as it was
-pub still-accepted : (image cert : List ℕ) → Bytes image → Bytes cert → verdictFormerly image cert ≡ verdict.Accepted → verdictOf image cert ≡ verdict.Accepted
+pub still-accepted : (rom : ℕ) (image cert : List ℕ) → Bytes image → Bytes cert → verdictFormerly rom image cert ≡ verdict.Accepted → verdictOf rom image cert ≡ verdict.Accepted
 still-accepted = formerly.still-accepted
 
 -- a program whose pointer comes from a table in ROM is accepted, and was not. With one byte of the table too large it is refused; `exceeding-breaks` of
 -- `refused_programs` shows that demand 3 is false of it
-pub table-accepted : (verdictOf (linearised.imageWith 6) linearised.certificate ≡ verdict.Accepted)
-    × (verdictFormerly (linearised.imageWith 6) linearised.certificate ≡ verdict.Refused 26 (romAddr 0x10B))
-    × (verdictOf (linearised.imageWith 0x10) linearised.certificate ≡ verdict.Refused 26 (romAddr 0x10B))
+pub table-accepted : (verdictOf program.rom (linearised.imageWith 6) linearised.certificate ≡ verdict.Accepted)
+    × (verdictFormerly program.rom (linearised.imageWith 6) linearised.certificate ≡ verdict.Refused 26 (romAddr 0x10B))
+    × (verdictOf program.rom (linearised.imageWith 0x10) linearised.certificate ≡ verdict.Refused 26 (romAddr 0x10B))
 table-accepted = (linearised.linearised-accepted, linearised.linearised-formerly, linearised.exceeding-refused)

@@ -121,7 +121,7 @@ pub fn entry_part(cert: &[u8], a: RomAddr) -> &[u8]
     ensures part { λ r. ⌜ now r ≡ entryPart (now (cert .entry)) (a .0) ⌝ }
     ensures fields { λ r. ⌜ entryFrom (now r) ≡ entryOf (certificateOf (now (cert .entry))) (a .0) ⌝ }
 {
-    if a.0 < base::ROM_END {
+    if a.0 < base::LARGEST_ROM {
         return part_at(cert, ENTRY_LENGTH * a.0 as usize, ENTRY_LENGTH);
     }
     &cert[0..0]

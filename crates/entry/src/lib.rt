@@ -3,7 +3,8 @@
 ghost use mathlib.Core.Path.{_≡_};
 ghost use mathlib.Core.Bool.{false};
 ghost use Prim.Native.Nat.{_*_, _/_};
-ghost use Rattle.semantics.specs.Step.{actingRequests, entryDue, enterOf, entryCost};
+ghost use Rattle.semantics.specs.Step.{actingRequests, entryDue, enterOf};
+ghost use Rattle.semantics.specs.Setup.{setupOf};
 ghost use Rattle.entry.specs.InPlace.{stateWith, coreOf, coreAfter, ended, finished};
 use base::RomAddr;
 use chip::Registers;
@@ -141,7 +142,7 @@ fn kept_flags(flags: u8) -> u8
 // An interrupt entry: the program counter and FLAGS are pushed, SYM.2 becomes 0, the vector is loaded. It costs what the configuration says.
 pub fn enter(configuration: Configuration, image: &[u8], s: Core, regs: &mut Registers) -> Ended
     ensures regs { λ _. ⌜ now (regs .exit) ≡ enterOf (now (image .entry)) (now (regs .entry)) (s .pc) .regs ⌝ }
-    ensures ended { λ r. ⌜ r ≡ finished s (enterOf (now (image .entry)) (now (regs .entry)) (s .pc) .next) false (entryCost configuration) ⌝ }
+    ensures ended { λ r. ⌜ r ≡ finished s (enterOf (now (image .entry)) (now (regs .entry)) (s .pc) .next) false (setupOf configuration .entryCost) ⌝ }
 {
     let pc = s.pc;
     let address = stack::push_address(regs, pc);

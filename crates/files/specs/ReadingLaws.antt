@@ -25,7 +25,7 @@ use Rattle.hex_text.specs.StreamTheorems.{feed-append, feed-append-buffer, piec
 use Rattle.certificate.specs.declared.Verdict.{Verdict}
 use Rattle.safety.specs.Verdicts.{verdictOf}
 use Rattle.report.specs.Report.{reportAnswer, reportBuffer}
-use Rattle.judge.specs.Judgement.{judgement, blankImage, blankCertificate}
+use Rattle.judge.specs.Judgement.{judgement, imageLength, blankImage, blankCertificate}
 use Rattle.judge.specs.JudgementLaws.{ReadFrom, judged}
 use Rattle.judge.specs.Refusals.{printed-within}
 use Rattle.files.specs.Reading.{lineEnd, lineEnds, counted, Fed, Settled, Turned, turnsLeft, answerOf, Reads, Judges}
@@ -241,7 +241,7 @@ read-from p = record { answers = p .answers; leaves = p .leaves }
 
 -- two files that were read into blank buffers, and what is written of their judgement
 pub judges : {i c : Outcome (Unit {0})} {image cert : List ℕ} {answer : Outcome ℕ} {verdict : Verdict} {out after : List ℕ}
-    → Reads i blankImage image → Reads c blankCertificate cert → length cert ≡ length blankCertificate → verdict ≡ verdictOf image cert
+    → Reads i blankImage image → Reads c blankCertificate cert → length cert ≡ length blankCertificate → verdict ≡ verdictOf imageLength image cert
     → answer ≡ reportAnswer (judgement i c verdict) cert (length out) → after ≡ reportBuffer (judgement i c verdict) cert out
     → Judges answer out after
 judges {out = out} p q n v a w =

@@ -7,6 +7,7 @@ ghost use Rattle.hex_text.specs.Text.{textOutcome};
 ghost use Rattle.hex_text.specs.Stream.{started};
 ghost use Rattle.hex_write.specs.ImageText.{writtenOutcome};
 ghost use Rattle.files.specs.Reading.{counted, lineEnd, Turned, turnsLeft, answerOf, Reads, Judges};
+use base::Profile;
 use hex_text::Stream;
 use hex_text::Text;
 use hex_write::Written;
@@ -128,8 +129,9 @@ fn answer_of(turn: Turn, length: usize) -> Text
     hex_text::finish(stream, length)
 }
 
-// Reads a file by its name. A missing file counts as empty.
-fn read_file(name: &[u8], buffer: &mut [u8], errors: i32) -> Text
+// Reads a file by its name into a buffer, as the HEX readers go by its length. A missing file counts as empty. What is wrong in the file is told in one
+// line on the descriptor `errors`.
+pub fn read_file(name: &[u8], buffer: &mut [u8], errors: i32) -> Text
     ensures { λ r. ⌜ Reads (textOutcome r) (now (buffer .entry)) (now (buffer .exit)) ⌝ }
 {
     let fd = os::open_read(name);
@@ -157,6 +159,6 @@ pub fn judge_files(
     let mut cert = judge::blank_certificate();
     let image_read = read_file(image_name, &mut image, errors);
     let certificate_read = read_file(certificate_name, &mut cert, errors);
-    let verdict = checker::check(&image, &cert);
+    let verdict = checker::check(Profile::Rom4K, &image, &cert);
     judge::write_judgement(image_read, certificate_read, verdict, &cert, out)
 }

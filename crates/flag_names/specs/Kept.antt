@@ -25,7 +25,7 @@ use Rattle.isa.specs.declared.Implied.{Implied}
 use Rattle.isa.specs.declared.Instruction.{Instruction}
 use Rattle.isa.specs.Flags.{flagIn, allFlags}
 use Rattle.decode.specs.Decode.{decodeAt}
-use Rattle.chip.specs.Registers.{among, keptBits, loadOf, writtenOf, keptOf, storeOf}
+use Rattle.chip.specs.Registers.{among, keptBits, inputsOf, loadOf, writtenOf, keptOf, storeOf}
 use Rattle.chip.specs.Laws.{store-other}
 use Rattle.chip.specs.Interrupts.{setInterruptsOf}
 use Rattle.chip.specs.InterruptLaws.{set-interrupts-other, post-other}
@@ -37,11 +37,11 @@ use Rattle.action.specs.Action.{actionOf}
 use Rattle.semantics.specs.Operands.{placeOf, fetchOf, wordAt, withFlags, spOf, lowered, raised, storeTop, pushOf, pushAddress}
 use Rattle.semantics.specs.Execute.{Executed, storeIf, codeAddress, steppedPair, carryChanged, executeOf}
 use Rattle.semantics.specs.Opened.{actionsOpened}
-use Rattle.semantics.specs.declared.Configuration.{Configuration}
 use Rattle.semantics.specs.declared.Mode.{Mode}
 use Rattle.semantics.specs.declared.Mode.the-variants.{Running, Idle, Stopped}
 use Rattle.semantics.specs.declared.State.{State}
 use Rattle.semantics.specs.declared.Stepped.{Stepped}
+use Rattle.semantics.specs.Setup.{Setup}
 use Rattle.semantics.specs.Step.{Acted, requested, entryDue, behind, finishOf, afterDecode, instructionAct, waitingAct, modeAct, actAfterRequests, actedOf, settled}
 use Rattle.semantics.specs.Step.{validMachine, stepOf}
 use Rattle.safety.specs.Invariant.{Shaped}
@@ -168,7 +168,7 @@ module _ (g : Flag) (n : FlagSet) (u : flagIn g (n .0) ≡ false) (image regs re
 requested-kept : (s : State) (rec : List ℕ) → flagsIn (requested s rec) ≡ flagsIn (s .regs)
 requested-kept s rec = post-other (s .regs) _ flagsCell (omega arith) (omega arith) (omega arith) (omega arith)
 
-module _ (K : Configuration) (image : List ℕ) (s : State) (rec : List ℕ) (d : Instruction × ℕ × FlagSet) (found : decodeAt image (s .pc .0) ≡ value d)
+module _ (K : Setup) (image : List ℕ) (s : State) (rec : List ℕ) (d : Instruction × ℕ × FlagSet) (found : decodeAt image (s .pc .0) ≡ value d)
     (g : Flag) where
   -- the instruction at the program counter, and the address behind it
   abbrev nextHere : RomAddr
@@ -177,6 +177,9 @@ module _ (K : Configuration) (image : List ℕ) (s : State) (rec : List ℕ) (d 
   abbrev actionHere : Action
   actionHere = actionOf (d .0) nextHere
 
+  abbrev inputsHere : List ℕ
+  inputsHere = inputsOf (K .part .grounds) rec
+
   -- the flag is the same in this state
   abbrev SameIn : State → Type 0
   SameIn s′ = flagIn g (flagsIn (s′ .regs)) ≡ flagIn g (flagsIn (s .regs))
@@ -184,19 +187,19 @@ module _ (K : Configuration) (image : List ℕ) (s : State) (rec : List ℕ) (d 
   waiting-same : SameIn (waitingAct s (requested s rec) 0 .state)
   waiting-same = ap (flagIn g) (requested-kept s rec)
 
-  module _ (unnamed : flagIn g (d .2 .0) ≡ false) (elsewhere : storesFlags actionHere (requested s rec) rec nextHere ≡ false) where
+  module _ (unnamed : flagIn g (d .2 .0) ≡ false) (elsewhere : storesFlags actionHere (requested s rec) inputsHere nextHere ≡ false) where
     finished-same : (e : Executed) (cost : ℕ) → flagIn g (flagsIn (e .regs)) ≡ flagIn g (flagsIn (s .regs)) → SameIn (finishOf s e true cost .state)
     unfolding finishOf
     finished-same e cost h = pick-has (λ (a : Acted). SameIn (a .state)) (eqb (e .next .stop) 0) _ _ (λ _. h) (λ _. refl)
 
-    decoded-same : SameIn (instructionAct image s (requested s rec) rec .state)
+    decoded-same : SameIn (instructionAct image s (requested s rec) inputsHere .state)
     unfolding instructionAct afterDecode
     decoded-same =
         rw found
         (finished-same _ _
-        (executed-kept g (d .2) unnamed image (requested s rec) rec nextHere actionHere elsewhere ∙ ap (flagIn g) (requested-kept s rec)))
+        (executed-kept g (d .2) unnamed image (requested s rec) inputsHere nextHere actionHere elsewhere ∙ ap (flagIn g) (requested-kept s rec)))
 
-    mode-same : (m : Mode) → SameIn (modeAct m image s (requested s rec) rec .state)
+    mode-same : (m : Mode) → SameIn (modeAct m image s (requested s rec) inputsHere .state)
     unfolding modeAct
     mode-same Running = decoded-same
     mode-same Idle = waiting-same

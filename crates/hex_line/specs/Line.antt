@@ -8,7 +8,8 @@ use lib.Dec.{eqb, leb}
 use Rattle.base.specs.Choice.{pick}
 use Rattle.base.specs.Outcome.{Outcome, andThen, onOutcome}
 use Rattle.base.specs.Outcome.Outcome.{value, refused}
-use Rattle.base.specs.Lengths.{isImageLength, isCertificateLength}
+use Rattle.base.specs.Lengths.{isCertificateLength}
+use Rattle.base.specs.Parts.{isImageLength}
 use Rattle.hex_line.specs.Record.{digitOf, countBy, addressBy, dataBy, parseBy, bodyOf}
 use Rattle.hex_line.specs.declared.Reader.{Reader}
 use Rattle.hex_line.specs.declared.Fields.{Fields}

@@ -38,9 +38,10 @@ unfolding records
 length-records m zero = refl
 length-records m (suc k) = omega (arith, length-append (records m k) (recordLine m k), length-records m k, length-recordLine m k)
 
-pub length-imageText : (m : List ℕ) → length (imageText m) ≡ textLength
+pub length-imageText : (rom : ℕ) (m : List ℕ) → length (imageText rom m) ≡ textLength rom
 unfolding imageText
-length-imageText m = omega (arith, length-append (records m recordCount) endLine, length-records m recordCount)
+length-imageText rom m =
+    omega (arith, length-append (records m (recordCount rom)) endLine, length-records m (recordCount rom))
 
 -- two stores right behind what is written
 pub store-two : (done p : List ℕ) (i i₁ i₂ v w : ℕ) → length done ≡ i → i₁ ≡ i + 1 → i₂ ≡ i + 2 → i + 1 < length p

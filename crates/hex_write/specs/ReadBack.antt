@@ -1,4 +1,4 @@
--- An image written as Intel HEX reads back to itself, whatever the buffer held before.
+-- An image written as Intel HEX reads back to itself, whatever the buffer held before. It goes by the bytes of a part's ROM, rom.
 -- Assumes nothing.
 use Prim.Native.Nat.{ℕ, zero, suc, _+_, _-_, _*_, _/_, _%_, _≤_, _<_}
 use mathlib.Core.Path.{_≡_, refl, sym, ap, _∙_}
@@ -14,7 +14,9 @@ use Rattle.base.specs.Choice.{pick}
 use Rattle.base.specs.ChoiceLaws.{pick-has}
 use Rattle.base.specs.Outcome.{Outcome, onOutcome}
 use Rattle.base.specs.Outcome.Outcome.{value, refused}
-use Rattle.base.specs.Lengths.{romLength, isImageLength}
+use Rattle.base.specs.Parts.{partOf}
+use Rattle.base.specs.declared.Profile.{Profile}
+use Rattle.base.specs.declared.Profile.the-variants.{Rom4K, Rom2K}
 use Rattle.hex_line.specs.Record.{digitOf, joined, pairAt, sumOf, dataOf, parseBody, bodyLength, bodyOf, addressBy, countBy, dataBy, fieldsBy, pairBy, parseBy, sumBy}
 use Rattle.hex_line.specs.Line.{bufferLength, begun, readLine, lineBuffer, bufferBy, readBy, storedBy}
 use Rattle.hex_line.specs.LineLaws.{sumOf-more}
@@ -22,7 +24,7 @@ use Rattle.hex_line.specs.declared.Reader.{Reader}
 use Rattle.hex_line.specs.declared.Fields.{Fields}
 use Rattle.hex_text.specs.Text.{lines, linesAnswer, linesBuffer, textAnswer, textBuffer}
 use Rattle.hex_text.specs.TextLaws.{Plain, plain-append, first-line}
-use Rattle.hex_write.specs.ImageText.{hexDigit, headByte, headSum, recordByte, digits, recordLine, records, endLine, recordCount, imageText, textLength, writeAnswer, writeBuffer}
+use Rattle.hex_write.specs.ImageText.{hexDigit, headByte, headSum, recordByte, digits, recordLine, records, endLine, addressable, recordCount, imageText, textLength, writeAnswer, writeBuffer}
 use Rattle.hex_write.specs.ImageTextLaws.{digits-more, length-digits, length-imageText}
 
 -- a digit is read as it was written
@@ -84,7 +86,7 @@ mixed-length : (m m₀ : List ℕ) (size n : ℕ) → length m ≡ size → leng
 mixed-length m m₀ size n s s₀ h =
     omega (arith, length-append (take n m) (drop n m₀), length-drop n m₀, length-take-le n m (omega arith))
 
-module _ (m : List ℕ) (k : ℕ) (low : k < recordCount) (byte : (i : ℕ) → getD m i 0 < 256) where
+module _ (m : List ℕ) (k : ℕ) (low : k * 16 < addressable) (byte : (i : ℕ) → getD m i 0 < 256) where
   head-small : (j : ℕ) → headByte m k j < 256
   unfolding headByte
   head-small j =
@@ -289,64 +291,79 @@ end-buffer : (r : Reader) → r .ended ≡ false → (x : List ℕ) → bufferLe
 unfolding lines linesBuffer readBy bufferBy storedBy parseBy fieldsBy countBy addressBy pairBy sumBy dataBy bodyLength
 end-buffer r e x good = rw (good, e)
 
-module _ (m m₀ : List ℕ) (size : ℕ) (good : bufferLength size ≡ true) (s : length m ≡ size) (s₀ : length m₀ ≡ size)
+module _ (m m₀ : List ℕ) (size : ℕ) (reach : size ≤ addressable) (good : bufferLength size ≡ true) (s : length m ≡ size) (s₀ : length m₀ ≡ size)
     (byte : (i : ℕ) → getD m i 0 < 256) where
   -- the first k records of an image, with any lines behind them
-  read-records : (k : ℕ) → k ≤ recordCount → k * 16 ≤ size → (ls : List (List ℕ))
+  read-records : (k : ℕ) → k * 16 ≤ size → (ls : List (List ℕ))
       → (linesAnswer (recordLines m k ++ ls) begun size ≡ linesAnswer ls (record { next = k * 16; ended = false }) size)
       × (linesBuffer (recordLines m k ++ ls) begun m₀
       ≡ linesBuffer ls (record { next = k * 16; ended = false }) (take (k * 16) m ++ drop (k * 16) m₀))
   unfolding recordLines linesAnswer linesBuffer
-  read-records zero h r ls = (refl, refl)
-  read-records (suc k) h r ls =
-      let low : k < recordCount = omega arith in
+  read-records zero r ls = (refl, refl)
+  read-records (suc k) r ls =
+      let low : k * 16 < addressable = omega arith in
       let fits : k * 16 + 16 ≤ size = omega arith in
       let e : suc k * 16 ≡ k * 16 + 16 = omega arith in
       let n = mixed-length m m₀ size (k * 16) s s₀ (omega arith) in
-      let ih = read-records k (omega arith) (omega arith) (recordLine m k ∷ ls) in
+      let ih = read-records k (omega arith) (recordLine m k ∷ ls) in
       let g = answered m k low byte size good fits in
       rw (append-assoc (recordLines m k) (recordLine m k ∷ []) ls, e)
       (ih .0 ∙ rw g, ih .1 ∙ rw (n, g, placed m k low byte size good fits m₀ s s₀))
 
--- the text of an image is read to its end, and leaves the image in the buffer
-pub read-back : (m m₀ : List ℕ) → length m ≡ romLength → length m₀ ≡ romLength → ((i : ℕ) → getD m i 0 < 256)
-    → (textAnswer (imageText m) (length m₀) ≡ value tt) × (textBuffer (imageText m) m₀ ≡ m)
-unfolding imageText textAnswer textBuffer
-read-back m m₀ s s₀ byte =
-    let r = read-records m m₀ romLength refl s s₀ byte recordCount (omega arith) (omega arith) (lines endLine) in
-    let whole : take romLength m ++ drop romLength m₀ ≡ m =
-    rw (take-all romLength m (omega arith), drop-of-length-le m₀ {i = romLength} (omega arith)) (append-nil m) in
-    let a : linesAnswer (lines (records m recordCount ++ endLine)) begun romLength ≡ value tt =
-    rw (lines-records m recordCount endLine) (r .0 ∙ read-end _ refl romLength refl) in
-    let b : linesBuffer (lines (records m recordCount ++ endLine)) begun m₀ ≡ m =
-    rw (lines-records m recordCount endLine) (r .1 ∙ rw whole (end-buffer _ refl m (rw s))) in
-    rw (s₀, a) (refl, b)
-
 -- where n bytes were written to the front of a buffer, they read back to the image
-abbrev pub ReadsBack : Outcome ℕ → List ℕ → List ℕ → Type 0
-ReadsBack (value n) m out =
-    (m₀ : List ℕ) → length m₀ ≡ romLength → (textAnswer (take n out) (length m₀) ≡ value tt) × (textBuffer (take n out) m₀ ≡ m)
-ReadsBack (refused k) m out = Unit {0}
+abbrev pub ReadsBack : ℕ → Outcome ℕ → List ℕ → List ℕ → Type 0
+ReadsBack rom (value n) m out =
+    (m₀ : List ℕ) → length m₀ ≡ rom → (textAnswer (take n out) (length m₀) ≡ value tt) × (textBuffer (take n out) m₀ ≡ m)
+ReadsBack rom (refused k) m out = Unit {0}
 
-pub reads-back : (m rest : List ℕ) → length m ≡ romLength → ((i : ℕ) → getD m i 0 < 256)
-    → ReadsBack (value textLength) m (imageText m ++ rest)
-reads-back m rest s byte m₀ s₀ = rw (take-at (imageText m) rest textLength (length-imageText m)) (read-back m m₀ s s₀ byte)
+-- a ROM of whole records within reach, whose length the reader takes
+module _ (rom : ℕ) (whole : rom % 16 ≡ 0) (reach : rom ≤ addressable) (good : bufferLength rom ≡ true) where
+  -- the text of an image is read to its end, and leaves the image in the buffer
+  pub read-back : (m m₀ : List ℕ) → length m ≡ rom → length m₀ ≡ rom → ((i : ℕ) → getD m i 0 < 256)
+      → (textAnswer (imageText rom m) (length m₀) ≡ value tt) × (textBuffer (imageText rom m) m₀ ≡ m)
+  unfolding imageText textAnswer textBuffer
+  read-back m m₀ s s₀ byte =
+      let n = recordCount rom in
+      let e : n * 16 ≡ rom = omega (arith, whole) in
+      let r = rw e at (read-records m m₀ rom reach good s s₀ byte n (omega (arith, whole)) (lines endLine)) in
+      let all : take rom m ++ drop rom m₀ ≡ m =
+      rw (take-all rom m (omega arith), drop-of-length-le m₀ {i = rom} (omega arith)) (append-nil m) in
+      let a : linesAnswer (lines (records m n ++ endLine)) begun rom ≡ value tt =
+      rw (lines-records m n endLine) (r .0 ∙ read-end _ refl rom good) in
+      let b : linesBuffer (lines (records m n ++ endLine)) begun m₀ ≡ m =
+      rw (lines-records m n endLine) (r .1 ∙ rw all (end-buffer _ refl m (rw s good))) in
+      rw (s₀, good, a) (refl, b)
 
--- an image is written where its text has room
-pub written-whole : (size room : ℕ) → size ≡ romLength → textLength ≤ room → writeAnswer size room ≡ value textLength
-unfolding writeAnswer
-written-whole size room e h = rw (eq-eqb size romLength e, le-ltb room textLength h)
+  pub reads-back : (m rest : List ℕ) → length m ≡ rom → ((i : ℕ) → getD m i 0 < 256)
+      → ReadsBack rom (value (textLength rom)) m (imageText rom m ++ rest)
+  reads-back m rest s byte m₀ s₀ =
+      rw (take-at (imageText rom m) rest (textLength rom) (length-imageText rom m)) (read-back m m₀ s s₀ byte)
+
+  written-reads-back : (m out : List ℕ) → ((i : ℕ) → getD m i 0 < 256)
+      → ReadsBack rom (writeAnswer rom (length m) (length out)) m (writeBuffer rom m out)
+  unfolding writeAnswer writeBuffer
+  written-reads-back m out byte = on (eqb (length m) rom) (ltb (length out) (textLength rom)) refl
+    where
+      answer : Bool → Bool → Outcome ℕ
+      answer t u = pick t (pick u (refused 7) (value (textLength rom))) (refused 7)
+
+      on : (t u : Bool) → eqb (length m) rom ≡ t
+          → ReadsBack rom (answer t u) m (onOutcome (answer t u) (λ n. imageText rom m ++ drop n out) (λ number. out))
+      on true true e = tt
+      on true false e = reads-back m (drop (textLength rom) out) (eqb-true (length m) rom e) byte
+      on false u e = tt
+
+-- each part's ROM is such a one
+pub rom-reads-back : (p : Profile) → (partOf p .rom % 16 ≡ 0) × (partOf p .rom ≤ addressable) × (bufferLength (partOf p .rom) ≡ true)
+rom-reads-back Rom4K = (refl, omega arith, refl)
+rom-reads-back Rom2K = (refl, omega arith, refl)
 
 -- what `write_image` answers and leaves in a buffer
-pub write-reads-back : (m out : List ℕ) → ((i : ℕ) → getD m i 0 < 256) → ReadsBack (writeAnswer (length m) (length out)) m (writeBuffer m out)
-unfolding writeAnswer writeBuffer
-write-reads-back m out byte = on (isImageLength (length m)) (ltb (length out) textLength) refl
-  where
-    answer : Bool → Bool → Outcome ℕ
-    answer t u = pick t (pick u (refused 7) (value textLength)) (refused 7)
+pub write-reads-back : (p : Profile) (m out : List ℕ) → ((i : ℕ) → getD m i 0 < 256)
+    → ReadsBack (partOf p .rom) (writeAnswer (partOf p .rom) (length m) (length out)) m (writeBuffer (partOf p .rom) m out)
+write-reads-back p m out byte = let (whole, reach, good) = rom-reads-back p in written-reads-back (partOf p .rom) whole reach good m out byte
 
-    on : (t u : Bool) → isImageLength (length m) ≡ t
-        → ReadsBack (answer t u) m (onOutcome (answer t u) (λ n. imageText m ++ drop n out) (λ number. out))
-    on true true e = tt
-    on true false e = reads-back m (drop textLength out) (eqb-true (length m) romLength e) byte
-    on false u e = tt
+-- an image is written where its text has room
+pub written-whole : (rom size room : ℕ) → size ≡ rom → textLength rom ≤ room → writeAnswer rom size room ≡ value (textLength rom)
+unfolding writeAnswer
+written-whole rom size room e h = rw (eq-eqb size rom e, le-ltb room (textLength rom) h)

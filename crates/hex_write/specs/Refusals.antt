@@ -5,14 +5,13 @@ use mathlib.Core.Path.{_≡_, refl, sym}
 use mathlib.Core.List.{List, [], _++_}
 use native.Mathlib.Nat.{le-of-eq}
 use native.Mathlib.Omega.{arith}
-use lib.Dec.{ltb}
+use lib.Dec.{eqb, ltb}
 use lib.ListN.{length, drop, length-append, length-drop}
 use borrow.Author.Tests.{ltb-false}
 use Rattle.base.specs.Choice.{pick}
 use Rattle.base.specs.ChoiceLaws.{pick-has}
 use Rattle.base.specs.Outcome.{Outcome, onOutcome}
 use Rattle.base.specs.Outcome.Outcome.{value, refused}
-use Rattle.base.specs.Lengths.{isImageLength}
 use Rattle.hex_write.specs.ImageText.{imageText, textLength, writeAnswer, writeBuffer}
 use Rattle.hex_write.specs.ImageTextLaws.{length-imageText}
 
@@ -32,19 +31,22 @@ pub length-front : (text out : List ℕ) (o : Outcome ℕ) → Fits text (length
 length-front text out (value n) f = omega (arith, length-append text (drop n out), length-drop n out, f .0, f .1)
 length-front text out (refused n) f = refl
 
-write-fits : (m : List ℕ) (size room : ℕ) → Fits (imageText m) room (writeAnswer size room)
-unfolding writeAnswer
-write-fits m size room =
-    pick-has (Fits (imageText m) room) (isImageLength size) _ _
-    (λ s. fits-within (imageText m) room textLength textLength (sym (length-imageText m)) (le-of-eq refl)) (λ s. refl)
+-- for a ROM of any length
+module _ (rom : ℕ) where
+  write-fits : (m : List ℕ) (size room : ℕ) → Fits (imageText rom m) room (writeAnswer rom size room)
+  unfolding writeAnswer
+  write-fits m size room =
+      pick-has (Fits (imageText rom m) room) (eqb size rom) _ _
+      (λ s. fits-within (imageText rom m) room (textLength rom) (textLength rom) (sym (length-imageText rom m)) (le-of-eq refl)) (λ s. refl)
 
-pub write-number : (size room n : ℕ) → writeAnswer size room ≡ refused n → n ≡ 7
-write-number size room n e = rw e at (write-fits [] size room)
+  pub write-number : (size room n : ℕ) → writeAnswer rom size room ≡ refused n → n ≡ 7
+  write-number size room n e = rw e at (write-fits [] size room)
 
-pub write-unchanged : (m out : List ℕ) (n : ℕ) → writeAnswer (length m) (length out) ≡ refused n → writeBuffer m out ≡ out
-unfolding writeBuffer
-write-unchanged m out n e = rw e
+  pub write-unchanged : (m out : List ℕ) (n : ℕ) → writeAnswer rom (length m) (length out) ≡ refused n → writeBuffer rom m out ≡ out
+  unfolding writeBuffer
+  write-unchanged m out n e = rw e
 
-pub length-writeBuffer : (m out : List ℕ) → length (writeBuffer m out) ≡ length out
-unfolding writeBuffer
-length-writeBuffer m out = length-front (imageText m) out (writeAnswer (length m) (length out)) (write-fits m (length m) (length out))
+  pub length-writeBuffer : (m out : List ℕ) → length (writeBuffer rom m out) ≡ length out
+  unfolding writeBuffer
+  length-writeBuffer m out =
+      length-front (imageText rom m) out (writeAnswer rom (length m) (length out)) (write-fits m (length m) (length out))

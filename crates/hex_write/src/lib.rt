@@ -2,17 +2,25 @@
 ghost use mathlib.Core.Path.{_≡_};
 ghost use Prim.Native.Nat.{_+_, _*_, _%_, _<_, _≤_};
 ghost use mathlib.Core.List.{_++_};
-ghost use Rattle.base.specs.Lengths.{romLength};
+ghost use Rattle.base.specs.Parts.{partOf};
 ghost use lib.ListN.{length, drop};
-ghost use Rattle.hex_write.specs.ImageText.{hexDigit, headByte, headSum, recordByte, recordLine, endLine, recordCount, imageText, textLength, writtenOutcome, writeAnswer, writeBuffer};
+ghost use Rattle.hex_write.specs.ImageText.{hexDigit, headByte, headSum, recordByte, recordLine, endLine, addressable, HasRecord, imageText, textLength, writtenOutcome, writeAnswer, writeBuffer};
 ghost use Rattle.hex_write.specs.ReadBack.{ReadsBack};
+use base::Profile;
 
-// The records of 16 bytes, each a line of 44; the end line, of 12.
-const RECORDS: usize = base::IMAGE_LENGTH / 16;
+// The bytes of the text of each part's image: the records of 16 bytes, each a line of 44; the end line, of 12.
+pub const TEXT_LENGTH_4K: usize = base::IMAGE_4K / 16 * 44 + 12;
 
-const END_AT: usize = RECORDS * 44;
+pub const TEXT_LENGTH_2K: usize = base::IMAGE_2K / 16 * 44 + 12;
 
-pub const TEXT_LENGTH: usize = END_AT + 12;
+pub fn text_length(profile: Profile) -> usize
+    ensures { λ r. ⌜ r ≡ textLength (partOf profile .rom) ⌝ }
+{
+    match profile {
+        Profile::Rom4K => TEXT_LENGTH_4K,
+        Profile::Rom2K => TEXT_LENGTH_2K,
+    }
+}
 
 // How many bytes were written; or refusal 7.
 pub enum Written {
@@ -30,7 +38,7 @@ pub fn hex_digit(x: u8) -> u8
 
 // Byte j of record k before its sum: length, address, type, data.
 fn head_byte(image: &[u8], k: usize, j: usize) -> u8
-    requires { ⌜ (k < recordCount) × (j < 20) × (length (now image) ≡ romLength) ⌝ }
+    requires { ⌜ HasRecord (now image) k × (j < 20) ⌝ }
     ensures { λ r. ⌜ r ≡ headByte (now (image .entry)) k j ⌝ }
 {
     match j {
@@ -44,7 +52,7 @@ fn head_byte(image: &[u8], k: usize, j: usize) -> u8
 
 // The sum modulo 256 of the first n bytes of record k.
 fn head_sum(image: &[u8], k: usize, n: usize) -> u16
-    requires { ⌜ (k < recordCount) × (n ≤ 20) × (length (now image) ≡ romLength) ⌝ }
+    requires { ⌜ HasRecord (now image) k × (n ≤ 20) ⌝ }
     ensures { λ r. ⌜ (r ≡ headSum (now (image .entry)) k n) × (r < 256) ⌝ }
 {
     let mut sum: u16 = 0;
@@ -58,7 +66,7 @@ fn head_sum(image: &[u8], k: usize, n: usize) -> u16
 
 // Byte j of record k, its sum included.
 fn record_byte(image: &[u8], k: usize, j: usize) -> u8
-    requires { ⌜ (k < recordCount) × (j < 21) × (length (now image) ≡ romLength) ⌝ }
+    requires { ⌜ HasRecord (now image) k × (j < 21) ⌝ }
     ensures { λ r. ⌜ r ≡ recordByte (now (image .entry)) k j ⌝ }
 {
     if j < 20 {
@@ -70,7 +78,7 @@ fn record_byte(image: &[u8], k: usize, j: usize) -> u8
 
 // Writes record k at the front of a part of the buffer.
 fn write_record(out: &mut [u8], image: &[u8], k: usize)
-    requires { ⌜ (k < recordCount) × (44 ≤ length (now out)) × (length (now image) ≡ romLength) ⌝ }
+    requires { ⌜ HasRecord (now image) k × (44 ≤ length (now out)) ⌝ }
     ensures { λ r. ⌜ now (out .exit) ≡ recordLine (now (image .entry)) k ++ drop 44 (now (out .entry)) ⌝ }
 {
     out[0] = 58;
@@ -104,30 +112,33 @@ fn write_end(out: &mut [u8])
 }
 
 fn write_lines(image: &[u8], out: &mut [u8])
-    requires { ⌜ (length (now image) ≡ romLength) × (textLength ≤ length (now out)) ⌝ }
-    ensures { λ r. ⌜ now (out .exit) ≡ imageText (now (image .entry)) ++ drop textLength (now (out .entry)) ⌝ }
+    requires { ⌜ (length (now image) ≤ addressable) × (textLength (length (now image)) ≤ length (now out)) ⌝ }
+    ensures { λ r. ⌜ now (out .exit) ≡ imageText (length (now (image .entry))) (now (image .entry)) ++ drop (textLength (length (now (image .entry)))) (now (out .entry)) ⌝ }
 {
+    let records = image.len() / 16;
     let mut k: usize = 0;
-    while k < RECORDS {
+    while k < records {
         let at = k * 44;
         write_record(&mut out[at..], image, k);
         k += 1;
     }
-    write_end(&mut out[END_AT..]);
+    let end = records * 44;
+    write_end(&mut out[end..]);
 }
 
-// Writes the text of an image at the front of a buffer. It reads back to the image. A refusal leaves the buffer as it was.
-pub fn write_image(image: &[u8], out: &mut [u8]) -> Written
-    ensures { λ r. ⌜ writtenOutcome r ≡ writeAnswer (length (now (image .entry))) (length (now (out .entry))) ⌝ }
-    ensures { λ r. ⌜ now (out .exit) ≡ writeBuffer (now (image .entry)) (now (out .entry)) ⌝ }
-    ensures { λ r. ⌜ ReadsBack (writtenOutcome r) (now (image .entry)) (now (out .exit)) ⌝ }
+// Writes the text of a part's image at the front of a buffer. It reads back to the image. A refusal leaves the buffer as it was.
+pub fn write_image(profile: Profile, image: &[u8], out: &mut [u8]) -> Written
+    ensures { λ r. ⌜ writtenOutcome r ≡ writeAnswer (partOf profile .rom) (length (now (image .entry))) (length (now (out .entry))) ⌝ }
+    ensures { λ r. ⌜ now (out .exit) ≡ writeBuffer (partOf profile .rom) (now (image .entry)) (now (out .entry)) ⌝ }
+    ensures { λ r. ⌜ ReadsBack (partOf profile .rom) (writtenOutcome r) (now (image .entry)) (now (out .exit)) ⌝ }
 {
-    if !base::is_image_length(image.len()) {
+    if !base::is_image_of(profile, image.len()) {
         return Written::WrongLength;
     }
-    if out.len() < TEXT_LENGTH {
+    let size = text_length(profile);
+    if out.len() < size {
         return Written::WrongLength;
     }
     write_lines(image, out);
-    Written::Bytes(TEXT_LENGTH)
+    Written::Bytes(size)
 }

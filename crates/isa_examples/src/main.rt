@@ -1,6 +1,6 @@
 // Decodes and encodes one instruction of every first byte, with the flags that it names, and the examples of the answers 7, 8, 10, 11 and 12; tells
 // every first byte's length.
-use base::IMAGE_LENGTH;
+use base::IMAGE_4K;
 use base::RegAddr;
 use base::RomAddr;
 use base::byte_at;
@@ -337,8 +337,8 @@ fn decoding(n: u8, s: &[u8], at: usize) {
 }
 
 fn decoding_examples() {
-    let image = [0u8; IMAGE_LENGTH];
-    decoding(14, &image, IMAGE_LENGTH);
+    let image = [0u8; IMAGE_4K];
+    decoding(14, &image, IMAGE_4K);
     decoding(15, b"\xE6\xD9", 0);
     decoding(16, b"\xA7\x24\x35", 0);
     decoding(17, b"\x30", 0);

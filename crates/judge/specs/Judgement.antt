@@ -9,7 +9,9 @@ use Rattle.base.specs.Addresses.{romAddr}
 use Rattle.base.specs.Choice.{pick}
 use Rattle.base.specs.Outcome.{Outcome, onOutcome}
 use Rattle.base.specs.Outcome.Outcome.{value, refused}
-use Rattle.base.specs.Lengths.{romLength, longCertificateLength}
+use Rattle.base.specs.Lengths.{longCertificateLength}
+use Rattle.base.specs.Parts.{partOf}
+use Rattle.base.specs.declared.Profile.the-variants.{Rom4K}
 use Rattle.hex_text.specs.Text.{textAnswer, textBuffer}
 use Rattle.certificate.specs.declared.Verdict.{Verdict}
 use Rattle.certificate.specs.declared.Verdict.the-variants.{Refused}
@@ -28,8 +30,12 @@ judgement image certificate verdict = onOutcome image (λ u. onOutcome certifica
 unfoldable pub filled : ℕ → ℕ → List ℕ
 filled n x = replicate n x
 
+-- the bytes of an image: the program judges for the 4K part (request 04)
+abbrev pub imageLength : ℕ
+imageLength = partOf Rom4K .rom
+
 abbrev pub blankImage : List ℕ
-blankImage = filled romLength 0xFF
+blankImage = filled imageLength 0xFF
 
 abbrev pub blankCertificate : List ℕ
 blankCertificate = filled longCertificateLength 0
@@ -39,7 +45,7 @@ unfoldable pub printed : List ℕ → List ℕ → List ℕ
 printed image certificate =
     let cert = textBuffer certificate blankCertificate in
     reportText
-    (judgement (textAnswer image romLength) (textAnswer certificate longCertificateLength) (verdictOf (textBuffer image blankImage) cert))
+    (judgement (textAnswer image imageLength) (textAnswer certificate longCertificateLength) (verdictOf imageLength (textBuffer image blankImage) cert))
     (certificateOf cert)
 
 -- the answer to two texts: the length of what is printed; 7: too short a buffer

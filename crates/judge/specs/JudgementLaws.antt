@@ -7,7 +7,7 @@ use mathlib.Core.List.{List}
 use lib.ListN.{length, length-replicate}
 use Rattle.base.specs.Outcome.{Outcome}
 use Rattle.base.specs.Outcome.Outcome.{value, refused}
-use Rattle.base.specs.Lengths.{romLength, longCertificateLength, isCertificateLength}
+use Rattle.base.specs.Lengths.{longCertificateLength, isCertificateLength}
 use Rattle.hex_text.specs.Text.{textAnswer, textBuffer}
 use Rattle.hex_text.specs.Stream.{Leaves}
 use Rattle.hex_text.specs.StreamTheorems.{leaves-same}
@@ -16,7 +16,7 @@ use Rattle.certificate.specs.Layout.{certificateOf}
 use Rattle.safety.specs.Verdicts.{verdictOf}
 use Rattle.report.specs.Report.{longestReport, reportText, reportAnswer, reportBuffer}
 use Rattle.report.specs.ReportLaws.{report-length}
-use Rattle.judge.specs.Judgement.{judgement, filled, blankImage, blankCertificate, printed, printedAnswer, printedBuffer}
+use Rattle.judge.specs.Judgement.{judgement, filled, imageLength, blankImage, blankCertificate, printed, printedAnswer, printedBuffer}
 
 pub length-filled : (n x : ℕ) → length (filled n x) ≡ n
 unfolding filled
@@ -28,7 +28,7 @@ unfolding printed
 printed-length s t =
     let cert = textBuffer t blankCertificate in
     report-length
-    (judgement (textAnswer s romLength) (textAnswer t longCertificateLength) (verdictOf (textBuffer s blankImage) cert))
+    (judgement (textAnswer s imageLength) (textAnswer t longCertificateLength) (verdictOf imageLength (textBuffer s blankImage) cert))
     (certificateOf cert)
 
 -- a text was read into a buffer; what a refused one left there does not count
@@ -42,27 +42,27 @@ pub read-whole : {text : List ℕ} {answer : Outcome (Unit {0})} {before after :
 read-whole {answer = answer} p = record { answers = p .0; leaves = leaves-same answer (p .1) }
 
 same-text : (i c : Outcome (Unit {0})) (image cert image₁ cert₁ : List ℕ) → Leaves i image₁ image → Leaves c cert₁ cert
-    → reportText (judgement i c (verdictOf image cert)) (certificateOf cert)
-    ≡ reportText (judgement i c (verdictOf image₁ cert₁)) (certificateOf cert₁)
+    → reportText (judgement i c (verdictOf imageLength image cert)) (certificateOf cert)
+    ≡ reportText (judgement i c (verdictOf imageLength image₁ cert₁)) (certificateOf cert₁)
 same-text (value u) (value v) image cert image₁ cert₁ p q = rw (p, q)
 same-text (value u) (refused k) image cert image₁ cert₁ p q = refl
 same-text (refused n) (value v) image cert image₁ cert₁ p q = refl
 same-text (refused n) (refused k) image cert image₁ cert₁ p q = refl
 
-judged-text : (i c : Outcome (Unit {0})) (s t image cert : List ℕ) → i ≡ textAnswer s romLength → c ≡ textAnswer t longCertificateLength
+judged-text : (i c : Outcome (Unit {0})) (s t image cert : List ℕ) → i ≡ textAnswer s imageLength → c ≡ textAnswer t longCertificateLength
     → Leaves i (textBuffer s blankImage) image → Leaves c (textBuffer t blankCertificate) cert
-    → reportText (judgement i c (verdictOf image cert)) (certificateOf cert) ≡ printed s t
+    → reportText (judgement i c (verdictOf imageLength image cert)) (certificateOf cert) ≡ printed s t
 unfolding printed
 judged-text i c s t image cert a b p q =
     rw (← a, ← b) (same-text i c image cert (textBuffer s blankImage) (textBuffer t blankCertificate) p q)
 
 pub judged : {s t : List ℕ} {i c : Outcome (Unit {0})} {image cert : List ℕ} {verdict : Verdict} (out : List ℕ)
-    → ReadFrom s i blankImage image → ReadFrom t c blankCertificate cert → length cert ≡ length blankCertificate → verdict ≡ verdictOf image cert
+    → ReadFrom s i blankImage image → ReadFrom t c blankCertificate cert → length cert ≡ length blankCertificate → verdict ≡ verdictOf imageLength image cert
     → (reportAnswer (judgement i c verdict) cert (length out) ≡ printedAnswer s t (length out))
     × (reportBuffer (judgement i c verdict) cert out ≡ printedBuffer s t out)
 unfolding reportAnswer reportBuffer printedAnswer printedBuffer
 judged {s} {t} {i} {c} {image} {cert} {verdict} out p q n v =
-    let a : i ≡ textAnswer s romLength = rw (length-filled romLength 0xFF) at (p .answers) in
+    let a : i ≡ textAnswer s imageLength = rw (length-filled imageLength 0xFF) at (p .answers) in
     let b : c ≡ textAnswer t longCertificateLength = rw (length-filled longCertificateLength 0) at (q .answers) in
     let k : isCertificateLength (length cert) ≡ true = rw (n ∙ length-filled longCertificateLength 0) in
     rw (v, k, judged-text i c s t image cert a b (p .leaves) (q .leaves)) (refl, refl)

@@ -11,10 +11,10 @@ use hex_text::Text;
 use hex_write::Written;
 
 // The buffers before the files are read. A file without the byte at E482H leaves 0 there.
-pub fn blank_image() -> [u8; base::IMAGE_LENGTH]
+pub fn blank_image() -> [u8; base::IMAGE_4K]
     ensures { λ r. ⌜ r ≡ blankImage ⌝ }
 {
-    [0xFF; base::IMAGE_LENGTH]
+    [0xFF; base::IMAGE_4K]
 }
 
 pub fn blank_certificate() -> [u8; base::LONG_CERTIFICATE_LENGTH]

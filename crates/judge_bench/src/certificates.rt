@@ -1,6 +1,7 @@
 // Checks of a certificate.
-use base::IMAGE_LENGTH;
+use base::IMAGE_4K;
 use base::LONG_CERTIFICATE_LENGTH;
+use base::Profile;
 use certificate::Verdict;
 use test_support::print;
 use test_support::print_hex;
@@ -29,7 +30,7 @@ fn put_times(bytes: &mut [u8], at: usize, part: &[u8], times: usize) {
 }
 
 // Main and service. LD SP,#C0H; CALL 0120H; JR to CALL. IRET. Entries of 0100H, 0103H, 0106H and 0110H, two routines, and the stack, A0H to BFH.
-fn put_main(image: &mut [u8; IMAGE_LENGTH], cert: &mut [u8; LONG_CERTIFICATE_LENGTH]) {
+fn put_main(image: &mut [u8; IMAGE_4K], cert: &mut [u8; LONG_CERTIFICATE_LENGTH]) {
     load(
         image,
         b":020000000110ED\n\
@@ -51,7 +52,7 @@ fn put_main(image: &mut [u8; IMAGE_LENGTH], cert: &mut [u8; LONG_CERTIFICATE_LEN
 
 // Routine 3 around its groups. CLR R2; CLR R4; CP R4,#FEH. RET. Entries of 0120H, 0122H, 0124H and 0CDFH, the cells R2, R3 and R4, of class 1 and
 // writer limit 63, and the routine.
-fn put_routine(image: &mut [u8; IMAGE_LENGTH], cert: &mut [u8; LONG_CERTIFICATE_LENGTH]) {
+fn put_routine(image: &mut [u8; IMAGE_4K], cert: &mut [u8; LONG_CERTIFICATE_LENGTH]) {
     load(
         image,
         b":07012000B0C2B0C4A6C4FE8A\n\
@@ -72,7 +73,7 @@ fn put_routine(image: &mut [u8; IMAGE_LENGTH], cert: &mut [u8; LONG_CERTIFICATE_
 
 // 500 groups of LD R3,@R2; LD @R2,R3; JR UGT,+0, whose two edges go on alike. In the entries R4 is claimed 0 to 255 and compared with 254, R2 is
 // claimed 0 to 9FH. Table 1 is 00H to 9FH, of class 1 and writer limit 63.
-fn put_groups(image: &mut [u8; IMAGE_LENGTH], cert: &mut [u8; LONG_CERTIFICATE_LENGTH]) {
+fn put_groups(image: &mut [u8; IMAGE_4K], cert: &mut [u8; LONG_CERTIFICATE_LENGTH]) {
     put_times(image, 0x127, b"\xC7\x32\xD7\x23\xBB\x00", 500);
     put_times(
         cert,
@@ -102,7 +103,7 @@ fn put_bounds(cert: &mut [u8; LONG_CERTIFICATE_LENGTH]) {
 
 // JP, where the full program has CALL. CLR R2; 1,267 times LDC R4,@RR2 and NOP; JP to CLR. In their entries R2 is claimed 0 to 0FH and its low half, R3,
 // is not, so that each LDC reaches all of ROM; R4 is claimed 0 to 255. Entries of 0120H and 0FFBH, and the cells R2 and R4, of class 1 and writer limit 1.
-fn put_loads(image: &mut [u8; IMAGE_LENGTH], cert: &mut [u8; LONG_CERTIFICATE_LENGTH]) {
+fn put_loads(image: &mut [u8; IMAGE_4K], cert: &mut [u8; LONG_CERTIFICATE_LENGTH]) {
     load(
         image,
         b":010103008D6E\n\
@@ -128,19 +129,19 @@ fn put_loads(image: &mut [u8; IMAGE_LENGTH], cert: &mut [u8; LONG_CERTIFICATE_LE
 }
 
 // JR to itself, where the full program has CALL.
-fn put_loop(image: &mut [u8; IMAGE_LENGTH]) {
+fn put_loop(image: &mut [u8; IMAGE_4K]) {
     put(image, 0x103, b"\x8B\xFE");
 }
 
 fn check_times(
-    image: &[u8; IMAGE_LENGTH],
+    image: &[u8; IMAGE_4K],
     cert: &[u8; LONG_CERTIFICATE_LENGTH],
     count: u64,
 ) -> Verdict {
-    let mut verdict = checker::check(image, cert);
+    let mut verdict = checker::check(Profile::Rom4K, image, cert);
     let mut left = count;
     while left > 1 {
-        verdict = checker::check(image, cert);
+        verdict = checker::check(Profile::Rom4K, image, cert);
         left -= 1;
     }
     verdict
@@ -170,7 +171,7 @@ fn count_of(what: u64) -> u64 {
     }
 }
 
-fn fill(what: u64, image: &mut [u8; IMAGE_LENGTH], cert: &mut [u8; LONG_CERTIFICATE_LENGTH]) {
+fn fill(what: u64, image: &mut [u8; IMAGE_4K], cert: &mut [u8; LONG_CERTIFICATE_LENGTH]) {
     if what != 3 {
         put_main(image, cert);
     }
@@ -188,7 +189,7 @@ fn fill(what: u64, image: &mut [u8; IMAGE_LENGTH], cert: &mut [u8; LONG_CERTIFIC
 // 1 is a full certificate of 1,508 entries, checked 100 times, 2 one of main and service alone, 10,000 times, 3 one of zeros, a million times,
 // 4 a full one of 2,540 entries, of which 1,267 are of an LDC that reaches all of ROM, 1,000 times.
 pub fn work(what: u64) {
-    let mut image = [255u8; IMAGE_LENGTH];
+    let mut image = [255u8; IMAGE_4K];
     let mut cert = [0u8; LONG_CERTIFICATE_LENGTH];
     fill(what, &mut image, &mut cert);
     tell(check_times(&image, &cert, count_of(what)));

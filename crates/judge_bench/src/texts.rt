@@ -1,7 +1,8 @@
 // Reading and writing an image of 4,096 bytes as Intel HEX, 11,276 bytes of text.
-use base::IMAGE_LENGTH;
+use base::IMAGE_4K;
+use base::Profile;
 use hex_text::Text;
-use hex_write::TEXT_LENGTH;
+use hex_write::TEXT_LENGTH_4K;
 use hex_write::Written;
 use test_support::print;
 use test_support::print_number;
@@ -10,10 +11,10 @@ use test_support::print_number;
 const TURNS: u64 = 20000;
 
 // The bytes of an image that has each value in each place modulo 256.
-fn image() -> [u8; IMAGE_LENGTH] {
-    let mut image = [0u8; IMAGE_LENGTH];
+fn image() -> [u8; IMAGE_4K] {
+    let mut image = [0u8; IMAGE_4K];
     let mut i = 0;
-    while i < IMAGE_LENGTH {
+    while i < IMAGE_4K {
         image[i] = (i % 256) as u8;
         i += 1;
     }
@@ -43,22 +44,22 @@ fn stream(text: &[u8], buffer: &mut [u8]) -> u64 {
 // Reads the whole text (5), reads it by feed and finish (6), or writes it.
 fn turn(
     what: u64,
-    image: &[u8; IMAGE_LENGTH],
-    text: &mut [u8; TEXT_LENGTH],
-    buffer: &mut [u8; IMAGE_LENGTH],
+    image: &[u8; IMAGE_4K],
+    text: &mut [u8; TEXT_LENGTH_4K],
+    buffer: &mut [u8; IMAGE_4K],
 ) -> u64 {
     match what {
         5 => answer_of(hex_text::read_text(text, buffer)),
         6 => stream(text, buffer),
-        _ => length_of(hex_write::write_image(image, text)),
+        _ => length_of(hex_write::write_image(Profile::Rom4K, image, text)),
     }
 }
 
 fn turns(
     what: u64,
-    image: &[u8; IMAGE_LENGTH],
-    text: &mut [u8; TEXT_LENGTH],
-    buffer: &mut [u8; IMAGE_LENGTH],
+    image: &[u8; IMAGE_4K],
+    text: &mut [u8; TEXT_LENGTH_4K],
+    buffer: &mut [u8; IMAGE_4K],
     count: u64,
 ) -> u64 {
     let mut answer: u64 = 0;
@@ -70,7 +71,7 @@ fn turns(
     answer
 }
 
-fn same(a: &[u8; IMAGE_LENGTH], b: &[u8; IMAGE_LENGTH]) -> bool {
+fn same(a: &[u8; IMAGE_4K], b: &[u8; IMAGE_4K]) -> bool {
     check::same(a, b)
 }
 
@@ -87,8 +88,8 @@ fn tell(answer: u64, same: bool) {
 // 5 reads a whole text, 6 reads it by feed and finish, 7 writes it, each 20,000 times.
 pub fn work(what: u64) {
     let image = image();
-    let mut text = [0u8; TEXT_LENGTH];
-    let mut buffer = [0u8; IMAGE_LENGTH];
+    let mut text = [0u8; TEXT_LENGTH_4K];
+    let mut buffer = [0u8; IMAGE_4K];
     turn(7, &image, &mut text, &mut buffer);
     let answer = turns(what, &image, &mut text, &mut buffer, TURNS);
     tell(answer, (what == 7) | same(&image, &buffer));

@@ -11,7 +11,7 @@ use lib.Dec.{T}
 use lib.ListN.{length, getD, replicate, set}
 use Rattle.base.specs.Addresses.{romAddr, spCell}
 use Rattle.base.specs.Formula.{decide}
-use Rattle.base.specs.Lengths.{romLength, isCertificateLength, recordLength, isEntryCost}
+use Rattle.base.specs.Lengths.{isCertificateLength, recordLength}
 use Rattle.isa.specs.declared.Alu.{Alu}
 use Rattle.isa.specs.declared.Unary.{Unary}
 use Rattle.isa.specs.declared.FlagSet.{FlagSet}
@@ -20,10 +20,10 @@ use Rattle.chip.specs.Registers.{keptOf}
 use Rattle.alu.specs.declared.Computed.{Computed}
 use Rattle.alu.specs.Flags.{carry, flagsByte, update}
 use Rattle.alu.specs.Operations.{operate, modify}
-use Rattle.semantics.specs.declared.Configuration.{Configuration}
 use Rattle.semantics.specs.declared.Mode.the-variants.{Running}
 use Rattle.semantics.specs.declared.State.{State}
-use Rattle.semantics.specs.Step.{movedTo, entryCost, stepOf}
+use Rattle.semantics.specs.Setup.{Setup}
+use Rattle.semantics.specs.Step.{movedTo, validMachine, stepOf}
 use Rattle.semantics.specs.Reset.{resetState}
 use Rattle.certificate.specs.declared.Verdict.{Verdict}
 use Rattle.certificate.specs.declared.Verdict.the-variants.{Accepted, Refused}
@@ -32,12 +32,12 @@ use Rattle.safety.specs.Verdicts.{rulesAt, scan, verdictOf}
 use Rattle.report.specs.Report.{reportText}
 use Rattle.logger_cases.specs.Gathered.{listed-none}
 use Rattle.logger_cases.specs.Computed.{layout, tables, certificate-tables, verdict-tables}
-use Rattle.logger_cases.specs.Program.{imageWith, entries, entry, cell, row, certificateFor, ends, certificateWith, entry-length, cell-length, row-length}
+use Rattle.logger_cases.specs.Program.{imageFor, rom, imageWith, entries, entry, cell, row, certificateFor, ends, certificateWith, entry-length, cell-length, row-length}
 use Rattle.logger_cases.specs.Opened.{opened}
 
 -- CALL 0521H stands at 0A47H
 unfoldable pub callImage : List ℕ
-callImage = replicate 0xA47 0xFF ++ (0xF6 ∷ 0x05 ∷ 0x21 ∷ replicate (romLength - 0xA4A) 0xFF)
+callImage = replicate 0xA47 0xFF ++ (0xF6 ∷ 0x05 ∷ 0x21 ∷ replicate (rom - 0xA4A) 0xFF)
 
 -- at an address, with SP
 unfoldable pub stateAt : ℕ → ℕ → State
@@ -53,7 +53,7 @@ pub data Case : Type 0 where
   operates : Alu → ℕ → ℕ → Bool → ℕ → (ℕ → ℕ) → Case
   -- on one byte
   modifies : Unary → ℕ → ℕ → (ℕ → ℕ) → Case
-  -- the step at an address of the image with this SP leaves a byte at a register, whatever an entry costs
+  -- the step at an address of the image with this SP leaves a byte at a register, on every machine that takes the image
   steps : List ℕ → ℕ → ℕ → ℕ → ℕ → Case
   -- a register that holds a byte is written: what it then holds
   stores : ℕ → ℕ → ℕ → ℕ → Case
@@ -68,10 +68,10 @@ abbrev pub CaseHolds : Case → Type 0
 CaseHolds (operates op x y c v f) = Leaves (aluNames op) (operate op x y c) v f
 CaseHolds (modifies op x v f) = (c : Bool) → Leaves (unaryNames op) (modify op x c) v f
 CaseHolds (steps image pc sp a v) =
-    (K : Configuration) → isEntryCost (entryCost K) ≡ true
+    (K : Setup) → validMachine K image ≡ true
     → let r = stepOf K image (stateAt pc sp) (replicate recordLength 0) in (r .stop ≡ 0) × (getD (r .state .regs) a 0 ≡ v)
 CaseHolds (stores a old v new) = keptOf a old v ≡ new
-CaseHolds (judges image cert v s) = (verdictOf image cert ≡ v) × (reportText (verdictOf image cert) (certificateOf cert) ≡ ascii s)
+CaseHolds (judges image cert v s) = (verdictOf rom image cert ≡ v) × (reportText (verdictOf rom image cert) (certificateOf cert) ≡ ascii s)
 
 -- what is printed of image P
 abbrev pub printedP : String
@@ -122,15 +122,15 @@ cases =
     ∷ judges (imageWith 0x7B) (certificateWith 364 0xBC) (Refused 25 (romAddr 0x100)) "refused 25 0100\n"
     ∷ []
 
-pub image-length : (j : ℕ) → length (imageWith j) ≡ romLength
-unfolding imageWith
+pub image-length : (j : ℕ) → length (imageWith j) ≡ rom
+unfolding imageFor
 image-length j = refl
 
 -- where the code ends, and with it the entries
-abbrev codeEnd : ℕ
+abbrev pub codeEnd : ℕ
 codeEnd = 0x141
 
-none-behind : (a : ℕ) → codeEnd ≤ a → entry a ≡ replicate 14 0
+pub none-behind : (a : ℕ) → codeEnd ≤ a → entry a ≡ replicate 14 0
 unfolding entry
 none-behind = listed-none 14 entries codeEnd refl
 
@@ -139,12 +139,12 @@ abbrev tablesP : ℕ → ℕ → List ℕ → Certificate
 tablesP service bound ends = tables entry cell (row service bound) ends entry-length cell-length (row-length service bound)
 
 pub on-tables : (j service bound : ℕ) (ends : List ℕ) → isCertificateLength (0xE480 + length ends) ≡ true → (v : Verdict) (s : String)
-    → T (decide (layout (tablesP service bound ends) (imageWith j) codeEnd)) → scan (tablesP service bound ends) (imageWith j) romLength 0 ≡ v
+    → T (decide (layout rom (tablesP service bound ends) (imageWith j) codeEnd)) → scan rom (tablesP service bound ends) (imageWith j) rom 0 ≡ v
     → reportText v (tablesP service bound ends) ≡ ascii s → CaseHolds (judges (imageWith j) (certificateFor service bound ends) v s)
 unfolding certificateFor
 on-tables j service bound ends size v s t e q =
     let rows = row-length service bound in
-    let p = verdict-tables entry cell (row service bound) ends entry-length cell-length rows codeEnd none-behind rulesAt (imageWith j) (image-length j) size t e in
+    let p = verdict-tables entry cell (row service bound) ends entry-length cell-length rows rom codeEnd none-behind rulesAt (imageWith j) (image-length j) size t e in
     let c = certificate-tables entry cell (row service bound) ends entry-length cell-length rows in
     (p, ap (λ w. reportText w (certificateOf (certificateFor service bound ends))) p ∙ ap (reportText v) c ∙ q)
 
@@ -201,7 +201,7 @@ unfolding opened
 case-h = refl
 
 -- image P with its certificate is accepted
-pub accepted-p : verdictOf (imageWith 0x7B) (certificateWith 364 0xA0) ≡ Accepted
+pub accepted-p : verdictOf rom (imageWith 0x7B) (certificateWith 364 0xA0) ≡ Accepted
 accepted-p = case-i .0
 
 -- the one theorem over the list

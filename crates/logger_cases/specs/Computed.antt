@@ -8,8 +8,8 @@ use mathlib.Core.List.{List}
 use Prim.Native.Nat.{ℕ, _+_, _≤_}
 use lib.Dec.{T, ltb}
 use lib.ListN.{length, getD, replicate}
-use Rattle.base.specs.Formula.{Formula, Holds, decide, sound, decide-yes, le?, _&_, forallBelow}
-use Rattle.base.specs.Lengths.{romLength, isCertificateLength}
+use Rattle.base.specs.Formula.{Formula, Holds, decide, sound, decide-yes, eqb-yes, le?, _&_, forallBelow}
+use Rattle.base.specs.Lengths.{largestRom, isCertificateLength}
 use Rattle.certificate.specs.declared.Verdict.{Verdict}
 use Rattle.certificate.specs.Layout.{Certificate, certificateFrom, certificateOf}
 use Rattle.safety.specs.Rules.{emptyEntry, addressRule, rule20}
@@ -18,30 +18,30 @@ use Rattle.rule20.specs.Parts.{fixedRule, cellsRule, startsRule, addressesRule,
 use Rattle.logger_cases.specs.Gathered.{upTo, certificateBytes, bytes-length, certificate-is}
 
 -- rule 20 as it is computed
-abbrev pub layout : Certificate → List ℕ → ℕ → Formula
-layout C image codeEnd = fixedRule C image & cellsRule C & startsRule C & forallBelow codeEnd (addressRule C)
+abbrev pub layout : ℕ → Certificate → List ℕ → ℕ → Formula
+layout rom C image codeEnd = fixedRule C image & cellsRule C & startsRule C rom & forallBelow codeEnd (addressRule C rom)
 
 -- no address from the code's end on breaks it
-abbrev pub NoneBehind : Certificate → ℕ → Type 0
-NoneBehind C codeEnd = (a : ℕ) → codeEnd ≤ a → T (decide (addressRule C a))
+abbrev pub NoneBehind : ℕ → Certificate → ℕ → Type 0
+NoneBehind rom C codeEnd = (a : ℕ) → codeEnd ≤ a → T (decide (addressRule C rom a))
 
-module _ (rules : Rules) (C : Certificate) (image : List ℕ) (codeEnd : ℕ) (behind : NoneBehind C codeEnd) where
-  addresses : Holds (forallBelow codeEnd (addressRule C)) → Holds (addressesRule C)
+module _ (rules : Rules) (rom : ℕ) (C : Certificate) (image : List ℕ) (codeEnd : ℕ) (behind : NoneBehind rom C codeEnd) where
+  addresses : Holds (forallBelow codeEnd (addressRule C rom)) → Holds (addressesRule C rom)
   unfolding addressesRule
-  addresses h a l = ⊎-elim (λ b. sound (addressRule C a) (behind a b)) (λ b. h a b) (le? codeEnd a)
+  addresses h a l = ⊎-elim (λ b. sound (addressRule C rom a) (behind a b)) (λ b. h a b) (le? codeEnd a)
 
-  pub verdict-by : {v : Verdict} → T (decide (layout C image codeEnd)) → scanBy rules C image romLength 0 ≡ v → verdictOnBy rules C image ≡ v
+  pub verdict-by : {v : Verdict} → T (decide (layout rom C image codeEnd)) → scanBy rules rom C image rom 0 ≡ v → verdictOnBy rules rom C image ≡ v
   unfolding verdictOnBy
   verdict-by t e =
-      let (fixed, (cells, (starts, entries))) = sound (layout C image codeEnd) t in
-      rw (verdictOnBy, sym (decide-yes (rule20 C image) (rule20-join C image fixed cells starts (addresses entries)))) e
+      let (fixed, (cells, (starts, entries))) = sound (layout rom C image codeEnd) t in
+      rw (verdictOnBy, sym (decide-yes (rule20 C rom image) (rule20-join C rom image fixed cells starts (addresses entries)))) e
 
 -- A certificate given by tables, and what stands behind them --
 
 module _ (entry cell row : ℕ → List ℕ) (ends : List ℕ)
     (entries : (k : ℕ) → length (entry k) ≡ 14) (cells : (k : ℕ) → length (cell k) ≡ 3) (rows : (k : ℕ) → length (row k) ≡ 6) where
   abbrev pub tables : Certificate
-  tables = certificateFrom (upTo romLength entry) (upTo 256 cell) (upTo 64 row) (getD ends 0 0) (getD ends 1 0) (getD ends 2 0)
+  tables = certificateFrom (upTo largestRom entry) (upTo 256 cell) (upTo 64 row) (getD ends 0 0) (getD ends 1 0) (getD ends 2 0)
 
   abbrev pub bytes : List ℕ
   bytes = certificateBytes entry cell row ends
@@ -49,17 +49,17 @@ module _ (entry cell row : ℕ → List ℕ) (ends : List ℕ)
   pub certificate-tables : certificateOf bytes ≡ tables
   certificate-tables = certificate-is entry cell row ends entries cells rows
 
-  module _ (codeEnd : ℕ) (none : (a : ℕ) → codeEnd ≤ a → entry a ≡ replicate 14 0) where
-    behind-code : NoneBehind tables codeEnd
+  module _ (rom codeEnd : ℕ) (none : (a : ℕ) → codeEnd ≤ a → entry a ≡ replicate 14 0) where
+    behind-code : NoneBehind rom tables codeEnd
     unfolding certificateFrom addressRule emptyEntry
-    behind-code a h = by-end (ltb a romLength) refl
+    behind-code a h = by-end (ltb a largestRom) refl
       where
-        by-end : (b : Bool) → ltb a romLength ≡ b → T (decide (addressRule tables a))
+        by-end : (b : Bool) → ltb a largestRom ≡ b → T (decide (addressRule tables rom a))
         by-end true e = rw (e, none a h) tt
         by-end false e = rw e tt
 
-    pub verdict-tables : (rules : Rules) (image : List ℕ) → length image ≡ romLength → isCertificateLength (0xE480 + length ends) ≡ true → {v : Verdict}
-        → T (decide (layout tables image codeEnd)) → scanBy rules tables image romLength 0 ≡ v → verdictBy rules image bytes ≡ v
+    pub verdict-tables : (rules : Rules) (image : List ℕ) → length image ≡ rom → isCertificateLength (0xE480 + length ends) ≡ true → {v : Verdict}
+        → T (decide (layout rom tables image codeEnd)) → scanBy rules rom tables image rom 0 ≡ v → verdictBy rules rom image bytes ≡ v
     unfolding verdictBy
     verdict-tables rules image size size′ t e =
-        rw (size, bytes-length entry cell row ends entries cells rows, size′, certificate-tables) (verdict-by rules tables image codeEnd behind-code t e)
+        rw (eqb-yes size, bytes-length entry cell row ends entries cells rows, size′, certificate-tables) (verdict-by rules rom tables image codeEnd behind-code t e)

@@ -12,7 +12,7 @@ use lib.Seq.{drop-drop, drop-at, take-at, getD-drop}
 use Rattle.base.specs.Choice.{pick, choose}
 use Rattle.base.specs.ChoiceLaws.{pick-has, fails, choose-other}
 use Rattle.base.specs.Formula.{of-true, sound, test, eq, _&_}
-use Rattle.base.specs.Lengths.{romLength}
+use Rattle.base.specs.Lengths.{largestRom}
 use Rattle.certificate.specs.Layout.{certificateFrom, part, certificateOf}
 
 -- what the table f gives for a, a + 1, .., n of them, one behind the other
@@ -80,12 +80,12 @@ module _ (w : ℕ) (f : ℕ → List ℕ) (wide : (k : ℕ) → length (f k) ≡
 -- ends: what stands from E480H on, the floor and the top and, in a long certificate, the cycles of an entry
 module _ (entry cell row : ℕ → List ℕ) (ends : List ℕ) where
   unfoldable pub certificateBytes : List ℕ
-  certificateBytes = gathered romLength 0 entry ++ (gathered 256 0 cell ++ (gathered 64 0 row ++ ends))
+  certificateBytes = gathered largestRom 0 entry ++ (gathered 256 0 cell ++ (gathered 64 0 row ++ ends))
 
   module _ (entries : (k : ℕ) → length (entry k) ≡ 14) (cells : (k : ℕ) → length (cell k) ≡ 3) (rows : (k : ℕ) → length (row k) ≡ 6) where
     at-cells : drop 0xE000 certificateBytes ≡ gathered 256 0 cell ++ (gathered 64 0 row ++ ends)
     unfolding certificateBytes
-    at-cells = drop-at (gathered romLength 0 entry) (gathered 256 0 cell ++ (gathered 64 0 row ++ ends)) 0xE000 (gathered-length 14 entry entries romLength 0)
+    at-cells = drop-at (gathered largestRom 0 entry) (gathered 256 0 cell ++ (gathered 64 0 row ++ ends)) 0xE000 (gathered-length 14 entry entries largestRom 0)
 
     at-rows : drop 0xE300 certificateBytes ≡ gathered 64 0 row ++ ends
     at-rows =
@@ -100,15 +100,15 @@ module _ (entry cell row : ℕ → List ℕ) (ends : List ℕ) where
     pub bytes-length : length certificateBytes ≡ 0xE480 + length ends
     unfolding certificateBytes
     bytes-length =
-        let a = gathered-length 14 entry entries romLength 0 in
+        let a = gathered-length 14 entry entries largestRom 0 in
         let b = gathered-length 3 cell cells 256 0 in
         let c = gathered-length 6 row rows 64 0 in
         let l1 = length-append (gathered 64 0 row) ends in
         let l2 = length-append (gathered 256 0 cell) (gathered 64 0 row ++ ends) in
-        let l3 = length-append (gathered romLength 0 entry) (gathered 256 0 cell ++ (gathered 64 0 row ++ ends)) in
+        let l3 = length-append (gathered largestRom 0 entry) (gathered 256 0 cell ++ (gathered 64 0 row ++ ends)) in
         omega arith
 
-    at-entries : drop 0 certificateBytes ≡ gathered romLength 0 entry ++ (gathered 256 0 cell ++ (gathered 64 0 row ++ ends))
+    at-entries : drop 0 certificateBytes ≡ gathered largestRom 0 entry ++ (gathered 256 0 cell ++ (gathered 64 0 row ++ ends))
     unfolding certificateBytes
     at-entries = refl
 
@@ -116,11 +116,11 @@ module _ (entry cell row : ℕ → List ℕ) (ends : List ℕ) where
     at-end k = sym (getD-drop 0xE480 certificateBytes k 0) ∙ ap (λ (l : List ℕ). getD l k 0) at-ends
 
     -- the certificate of the bytes is the tables'
-    pub certificate-is : certificateOf certificateBytes ≡ certificateFrom (upTo romLength entry) (upTo 256 cell) (upTo 64 row) (getD ends 0 0) (getD ends 1 0) (getD ends 2 0)
+    pub certificate-is : certificateOf certificateBytes ≡ certificateFrom (upTo largestRom entry) (upTo 256 cell) (upTo 64 row) (getD ends 0 0) (getD ends 1 0) (getD ends 2 0)
     unfolding certificateOf
     certificate-is =
         rw (
-          part-gathered 14 entry entries romLength 0 certificateBytes (gathered 256 0 cell ++ (gathered 64 0 row ++ ends)) at-entries,
+          part-gathered 14 entry entries largestRom 0 certificateBytes (gathered 256 0 cell ++ (gathered 64 0 row ++ ends)) at-entries,
           part-gathered 3 cell cells 256 0xE000 certificateBytes (gathered 64 0 row ++ ends) at-cells,
           part-gathered 6 row rows 64 0xE300 certificateBytes ends at-rows,
           at-end 0,

@@ -6,3 +6,4 @@ pub mod Gauges
 pub mod Linearised
 pub mod Opened
 pub mod Program
+pub mod SmallPart

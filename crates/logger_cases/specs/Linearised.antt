@@ -8,7 +8,6 @@ use lib.ListN.{length, replicate}
 use Rattle.base.specs.Addresses.{romAddr}
 use Rattle.base.specs.Choice.{from}
 use Rattle.base.specs.Formula.{decide}
-use Rattle.base.specs.Lengths.{romLength}
 use Rattle.certificate.specs.declared.Verdict.{Verdict}
 use Rattle.certificate.specs.declared.Verdict.the-variants.{Accepted, Refused}
 use Rattle.certificate.specs.Layout.{Certificate}
@@ -16,6 +15,7 @@ use Rattle.safety.specs.Verdicts.{Rules, rulesAt, scanBy, verdictBy, verdictOf}
 use Rattle.safety.specs.Formerly.{formerRules, verdictFormerly}
 use Rattle.logger_cases.specs.Gathered.{listed, listed-length, listed-none, certificateBytes}
 use Rattle.logger_cases.specs.Computed.{layout, tables, verdict-tables}
+use Rattle.logger_cases.specs.Program.{rom}
 use Rattle.logger_cases.specs.Opened.{opened}
 
 -- main: LD SP,#C0H; then again and again LD R2,#01H; LD R3,F8H; AND R3,#0FH; LDC R4,20H[RR2]; LD R0,@R4. At 0120H stands the table of 16 bytes, b the one
@@ -27,7 +27,7 @@ imageWith b =
     ++ ((0xE6 ∷ 0xD9 ∷ 0xC0 ∷ 0x2C ∷ 0x01 ∷ 0xE4 ∷ 0xF8 ∷ 0xC3 ∷ 0x56 ∷ 0xC3 ∷ 0x0F ∷ 0xE7 ∷ 0x42 ∷ 0x20 ∷ 0xC7 ∷ 0x04 ∷ 0x8B ∷ 0xF1 ∷ [])
     ++ (replicate 14 0xFF
     ++ ((0 ∷ 1 ∷ 3 ∷ 5 ∷ b ∷ 7 ∷ 9 ∷ 10 ∷ 11 ∷ 12 ∷ 13 ∷ 13 ∷ 14 ∷ 14 ∷ 15 ∷ 15 ∷ [])
-    ++ (replicate 16 0xFF ++ (0xBF ∷ replicate (romLength - 0x141) 0xFF))))))
+    ++ (replicate 16 0xFF ++ (0xBF ∷ replicate (rom - 0x141) 0xFF))))))
 
 -- an entry of main, with two claims
 abbrev claiming : ℕ → ℕ → ℕ → ℕ → ℕ → ℕ → ℕ → List ℕ
@@ -84,7 +84,7 @@ row-length : (k : ℕ) → length (row k) ≡ 6
 unfolding row
 row-length = listed-length 6 rows tt
 
-image-length : (b : ℕ) → length (imageWith b) ≡ romLength
+image-length : (b : ℕ) → length (imageWith b) ≡ rom
 unfolding imageWith
 image-length b = refl
 
@@ -99,22 +99,22 @@ none-behind = listed-none 14 entries codeEnd refl
 abbrev judged : Certificate
 judged = tables entry cell row ends entry-length cell-length row-length
 
-on-tables : (rules : Rules) (b : ℕ) {v : Verdict} → T (decide (layout judged (imageWith b) codeEnd)) → scanBy rules judged (imageWith b) romLength 0 ≡ v
-    → verdictBy rules (imageWith b) certificate ≡ v
+on-tables : (rules : Rules) (b : ℕ) {v : Verdict} → T (decide (layout rom judged (imageWith b) codeEnd)) → scanBy rules rom judged (imageWith b) rom 0 ≡ v
+    → verdictBy rules rom (imageWith b) certificate ≡ v
 unfolding certificate
-on-tables rules b t e = verdict-tables entry cell row ends entry-length cell-length row-length codeEnd none-behind rules (imageWith b) (image-length b) refl t e
+on-tables rules b t e = verdict-tables entry cell row ends entry-length cell-length row-length rom codeEnd none-behind rules (imageWith b) (image-length b) refl t e
 
 -- every byte of the table is 00H to 0FH
-pub linearised-accepted : verdictOf (imageWith 6) certificate ≡ Accepted
+pub linearised-accepted : verdictOf rom (imageWith 6) certificate ≡ Accepted
 unfolding opened imageWith entry cell row
 linearised-accepted = on-tables rulesAt 6 tt refl
 
 -- what LDC loads counted as 0 to 255, so R4's claim at 010EH did not follow
-pub linearised-formerly : verdictFormerly (imageWith 6) certificate ≡ Refused 26 (romAddr 0x10B)
+pub linearised-formerly : verdictFormerly rom (imageWith 6) certificate ≡ Refused 26 (romAddr 0x10B)
 unfolding opened imageWith entry cell row
 linearised-formerly = on-tables formerRules 6 tt refl
 
 -- a single byte too large
-pub exceeding-refused : verdictOf (imageWith 0x10) certificate ≡ Refused 26 (romAddr 0x10B)
+pub exceeding-refused : verdictOf rom (imageWith 0x10) certificate ≡ Refused 26 (romAddr 0x10B)
 unfolding opened imageWith entry cell row
 exceeding-refused = on-tables rulesAt 0x10 tt refl

@@ -1,4 +1,4 @@
--- Image P of 01 and its certificate, at full size. The byte, the bounds and what stands from E480H on, in which the cases differ,
+-- Image P of 01 and its certificate, at full size. The bytes of ROM, the byte, the bounds and what stands from E480H on, in which the cases differ,
 -- are parameters.
 -- Assumes nothing.
 use mathlib.Core.Path.{_≡_, refl}
@@ -8,18 +8,26 @@ use lib.Dec.{ltb}
 use lib.ListN.{length, replicate}
 use Rattle.base.specs.Choice.{pick}
 use Rattle.base.specs.ChoiceLaws.{pick-has}
-use Rattle.base.specs.Lengths.{romLength}
+use Rattle.base.specs.declared.Profile.the-variants.{Rom4K}
+use Rattle.base.specs.Parts.{partOf}
 use Rattle.logger_cases.specs.Gathered.{listed, listed-length, certificateBytes}
 
 -- j stands at 0128H
-unfoldable pub imageWith : ℕ → List ℕ
-imageWith j =
+unfoldable pub imageFor : ℕ → ℕ → List ℕ
+imageFor size j =
     (0x01 ∷ 0x40 ∷ [])
     ++ (replicate 254 0xFF
     ++ ((0xE6 ∷ 0xD9 ∷ 0xC0 ∷ 0xF6 ∷ 0x01 ∷ 0x20 ∷ 0x8B ∷ 0xFB ∷ [])
     ++ (replicate 24 0xFF
     ++ ((0xB0 ∷ 0xC2 ∷ 0x03 ∷ 0x32 ∷ 0x2E ∷ 0xA6 ∷ 0xC2 ∷ 0x10 ∷ j ∷ 0xF8 ∷ 0xAF ∷ [])
-    ++ (replicate 21 0xFF ++ (0xBF ∷ replicate (romLength - 0x141) 0xFF))))))
+    ++ (replicate 21 0xFF ++ (0xBF ∷ replicate (size - 0x141) 0xFF))))))
+
+-- on 01's part, which has so many bytes of ROM
+abbrev pub rom : ℕ
+rom = partOf Rom4K .rom
+
+abbrev pub imageWith : ℕ → List ℕ
+imageWith j = imageFor rom j
 
 -- fourteen bytes of an entry: routine, depth, B, M, direction, first claim, no second claim, compare
 abbrev entryBytes : ℕ → ℕ → ℕ → ℕ → ℕ → ℕ → ℕ → ℕ → ℕ → ℕ → List ℕ

@@ -16,7 +16,7 @@ use Rattle.base.specs.Choice.{pick}
 use Rattle.base.specs.ChoiceLaws.{pick-has}
 use Rattle.base.specs.Formula.{eqb-yes, eqb-no, case-bool}
 use Rattle.base.specs.Lengths.{recordLength}
-use Rattle.semantics.specs.declared.Configuration.{Configuration}
+use Rattle.semantics.specs.Setup.{Setup}
 use Rattle.semantics.specs.declared.State.{State}
 use Rattle.semantics.specs.declared.Stepped.{Stepped}
 use Rattle.semantics.specs.declared.Ran.{Ran}
@@ -37,7 +37,7 @@ record Counts (k c : ℕ) (r : Ran) : Type 0 where
   few : c ≤ k
   all : r .stop ≡ 0 → c ≡ k
 
-from-counts : (k : ℕ) (K : Configuration) (image schedule : List ℕ) (i : ℕ) (s : State)
+from-counts : (k : ℕ) (K : Setup) (image schedule : List ℕ) (i : ℕ) (s : State)
     → Counts k (completedOf k K image schedule i s) (runFrom k K image schedule i s)
 unfolding runFrom completedOf
 from-counts zero K image schedule i s = record { few = omega arith; all = λ _. refl }
@@ -71,7 +71,7 @@ module _ (k : ℕ) (a : List ℕ) (i : ℕ) (b : List ℕ) (j : ℕ) (same : Sam
       rw (e, f) (same (suc n) (omega arith))
 
 -- a run over records of a whole, of which the first k are those of a part: the run over the part, and if it is not refused over n records more
-module _ (K : Configuration) (image whole part : List ℕ) (n : ℕ) where
+module _ (K : Setup) (image whole part : List ℕ) (n : ℕ) where
   abbrev goOn : ℕ → ℕ → Ran → Ran
   goOn i steps r = pick (eqb (r .stop) 0) (runFrom n K image whole i (r .state)) (ran (r .state) steps (r .stop))
 
@@ -102,7 +102,7 @@ module _ (K : Configuration) (image whole part : List ℕ) (n : ℕ) where
       on false e h = rw (e, add-zero i)
 
 -- over no more
-run-same : (K : Configuration) (image whole part : List ℕ) (k i : ℕ) (s : State) → Same k whole i part 0
+run-same : (K : Setup) (image whole part : List ℕ) (k i : ℕ) (s : State) → Same k whole i part 0
     → let r = runFrom k K image part 0 s in runFrom k K image whole i s ≡ ran (r .state) (i + completedOf k K image part 0 s) (r .stop)
 unfolding runFrom
 run-same K image whole part k i s same =
@@ -112,7 +112,7 @@ run-same K image whole part k i s same =
     (λ e. let z = eqb-true (r .stop) 0 e in rw (z, from-counts k K image part 0 s .all z)) (λ _. refl)
 
 -- behind m records of a whole, its next k records being those of a part: the state behind them, and what begins at each
-module _ (K : Configuration) (image whole part : List ℕ) (m : ℕ) (s t : State) (e : stateBehind m K image whole 0 s ≡ t) where
+module _ (K : Setup) (image whole part : List ℕ) (m : ℕ) (s t : State) (e : stateBehind m K image whole 0 s ≡ t) where
   behind-then : (k : ℕ) → Same k whole m part 0 → stateBehind (m + k) K image whole 0 s ≡ stateBehind k K image part 0 t
   unfolding stateBehind
   behind-then zero same = rw (add-zero m) e
@@ -143,7 +143,7 @@ pick-each true x y p q f g = f refl
 pick-each false x y p q f g = g refl
 
 -- a run over a whole schedule, by the tests before it
-module _ (K : Configuration) (image : List ℕ) (s : State) (schedule : List ℕ) where
+module _ (K : Setup) (image : List ℕ) (s : State) (schedule : List ℕ) where
   abbrev records : ℕ
   records = length schedule / recordLength
 
@@ -165,7 +165,7 @@ module _ (K : Configuration) (image : List ℕ) (s : State) (schedule : List ℕ
   unfolding coveredMap
   covered-by m b e = rw e
 
-module _ (K : Configuration) (image : List ℕ) (s : State) (a b : List ℕ) (wa : length a % recordLength ≡ 0) (wb : length b % recordLength ≡ 0) where
+module _ (K : Setup) (image : List ℕ) (s : State) (a b : List ℕ) (wa : length a % recordLength ≡ 0) (wb : length b % recordLength ≡ 0) where
   abbrev k : ℕ
   k = length a / recordLength
 

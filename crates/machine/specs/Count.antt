@@ -18,14 +18,15 @@ use Rattle.isa.specs.declared.FlagSet.{FlagSet}
 use Rattle.isa.specs.declared.Instruction.{Instruction}
 use Rattle.isa.specs.Map.{cyclesOf}
 use Rattle.decode.specs.Decode.{decodeAt}
-use Rattle.semantics.specs.declared.Configuration.{Configuration}
+use Rattle.chip.specs.Registers.{inputsOf}
+use Rattle.semantics.specs.Setup.{Setup}
 use Rattle.semantics.specs.declared.Mode.{Mode}
 use Rattle.semantics.specs.declared.Mode.the-variants.{Running, Idle, Stopped}
 use Rattle.semantics.specs.declared.State.{State}
 use Rattle.semantics.specs.declared.Stepped.{Stepped}
 use Rattle.semantics.specs.declared.Ran.{Ran}
 use Rattle.semantics.specs.Execute.{Executed}
-use Rattle.semantics.specs.Step.{Acted, entryDue, finishOf, entryCost, afterDecode, instructionAct, modeAct, actAfterRequests, requested, actedOf, settled, validMachine, stepOf}
+use Rattle.semantics.specs.Step.{Acted, entryDue, finishOf, afterDecode, instructionAct, modeAct, actAfterRequests, requested, actedOf, settled, validMachine, stepOf}
 use Rattle.semantics.specs.Run.{ran, recordAt, runFrom, runOf}
 use Rattle.semantics.specs.Refusals.{step-stops}
 
@@ -41,36 +42,36 @@ modeCost Idle image pc = 0
 modeCost Stopped image pc = 0
 
 -- the cycles of a step, from the state before it; those of an entry come from the configuration (request 03)
-unfoldable pub costOf : Configuration → List ℕ → State → List ℕ → ℕ
-costOf K image s rec = pick (entryDue (requested s rec) (s .mode)) (entryCost K) (modeCost (s .mode) image (s .pc))
+unfoldable pub costOf : Setup → List ℕ → State → List ℕ → ℕ
+costOf K image s rec = pick (entryDue (requested s rec) (s .mode)) (K .entryCost) (modeCost (s .mode) image (s .pc))
 
 -- how many steps the next k records complete, from record i on: those before the first that is refused
-unfoldable pub completedOf : ℕ → Configuration → List ℕ → List ℕ → ℕ → State → ℕ
+unfoldable pub completedOf : ℕ → Setup → List ℕ → List ℕ → ℕ → State → ℕ
 completedOf zero K image schedule i s = 0
 completedOf (suc k) K image schedule i s =
     let r = stepOf K image s (recordAt schedule i) in
     elim (eqb (r .stop) 0) [ true ↦ suc (completedOf k K image schedule (i + 1) (r .state)) | false ↦ 0 ]
 
 -- what those steps cost
-unfoldable pub costsOf : ℕ → Configuration → List ℕ → List ℕ → ℕ → State → ℕ
+unfoldable pub costsOf : ℕ → Setup → List ℕ → List ℕ → ℕ → State → ℕ
 costsOf zero K image schedule i s = 0
 costsOf (suc k) K image schedule i s =
     let r = stepOf K image s (recordAt schedule i) in
     elim (eqb (r .stop) 0) [ true ↦ costOf K image s (recordAt schedule i) + costsOf k K image schedule (i + 1) (r .state) | false ↦ 0 ]
 
 -- the state behind the next k records from record i on, a step each
-unfoldable pub stateBehind : ℕ → Configuration → List ℕ → List ℕ → ℕ → State → State
+unfoldable pub stateBehind : ℕ → Setup → List ℕ → List ℕ → ℕ → State → State
 stateBehind zero K image schedule i s = s
 stateBehind (suc k) K image schedule i s = stateBehind k K image schedule (i + 1) (stepOf K image s (recordAt schedule i) .state)
 
 -- how many steps a run completes, and what they cost: none where the configuration or a length is wrong
-unfoldable pub completedSteps : Configuration → List ℕ → State → List ℕ → ℕ
+unfoldable pub completedSteps : Setup → List ℕ → State → List ℕ → ℕ
 completedSteps K image s schedule =
     pick (validMachine K image && eqb (length schedule % recordLength) 0)
     (completedOf (length schedule / recordLength) K image schedule 0 s)
     0
 
-unfoldable pub totalCost : Configuration → List ℕ → State → List ℕ → ℕ
+unfoldable pub totalCost : Setup → List ℕ → State → List ℕ → ℕ
 totalCost K image s schedule =
     pick (validMachine K image && eqb (length schedule % recordLength) 0)
     (costsOf (length schedule / recordLength) K image schedule 0 s)
@@ -111,10 +112,10 @@ module _ (s : State) (small : s .cycles < 4294967296) where
   mode-accounts Idle image regs rec = record { completed = λ _. refl; refused = λ h. absurd (h refl) }
   mode-accounts Stopped image regs rec = record { completed = λ _. refl; refused = λ h. absurd (h refl) }
 
-  due-accounts : (b : Bool) (K : Configuration) (image regs rec : List ℕ)
-      → ActAccounts (pick b (entryCost K) (modeCost (s .mode) image (s .pc))) (actAfterRequests b K image s regs rec)
+  due-accounts : (b : Bool) (K : Setup) (image regs rec : List ℕ)
+      → ActAccounts (pick b (K .entryCost) (modeCost (s .mode) image (s .pc))) (actAfterRequests b K image s regs rec)
   unfolding actAfterRequests
-  due-accounts true K image regs rec = finish-accounts _ false (entryCost K)
+  due-accounts true K image regs rec = finish-accounts _ false (K .entryCost)
   due-accounts false K image regs rec = mode-accounts (s .mode) image regs rec
 
   -- what settles keeps the cycle total and the number
@@ -122,15 +123,15 @@ module _ (s : State) (small : s .cycles < 4294967296) where
   unfolding settled
   settled-accounts cost a h = h
 
-  pub step-accounts : (K : Configuration) (image rec : List ℕ) → Accounts s (costOf K image s rec) (stepOf K image s rec .state) (stepOf K image s rec .stop)
+  pub step-accounts : (K : Setup) (image rec : List ℕ) → Accounts s (costOf K image s rec) (stepOf K image s rec .state) (stepOf K image s rec .stop)
   unfolding stepOf actedOf costOf
   step-accounts K image rec =
       pick-has (λ (r : Stepped). Accounts s (costOf K image s rec) (r .state) (r .stop)) (validMachine K image && eqb (length rec) recordLength) _ _
-      (λ _. settled-accounts _ _ (due-accounts (entryDue (requested s rec) (s .mode)) K image (requested s rec) rec))
+      (λ _. settled-accounts _ _ (due-accounts (entryDue (requested s rec) (s .mode)) K image (requested s rec) (inputsOf (K .part .grounds) rec)))
       (λ _. refuse-accounts 7 _ (λ h. absurd (omega (arith, h))))
 
 -- the steps of a run are the completed ones
-pub run-steps : (k : ℕ) (K : Configuration) (image schedule : List ℕ) (i : ℕ) (s : State)
+pub run-steps : (k : ℕ) (K : Setup) (image schedule : List ℕ) (i : ℕ) (s : State)
     → runFrom k K image schedule i s .steps ≡ i + completedOf k K image schedule i s
 unfolding runFrom completedOf
 run-steps zero K image schedule i s = omega arith
@@ -149,7 +150,7 @@ sums : (a b c d : ℕ) → d ≡ (a + b) % 4294967296 → (d + c) % 4294967296 �
 sums a b c d e = omega arith
 
 -- the cycle total of a run is the start's plus the completed steps' costs
-pub run-cycles : (k : ℕ) (K : Configuration) (image schedule : List ℕ) (i : ℕ) (s : State) → s .cycles < 4294967296
+pub run-cycles : (k : ℕ) (K : Setup) (image schedule : List ℕ) (i : ℕ) (s : State) → s .cycles < 4294967296
     → runFrom k K image schedule i s .state .cycles ≡ (s .cycles + costsOf k K image schedule i s) % 4294967296
 unfolding runFrom costsOf
 run-cycles zero K image schedule i s small = same-total s small
@@ -173,7 +174,7 @@ run-cycles (suc k) K image schedule i s small = on (eqb (r .stop) 0) refl (run-c
     on false h rest = ap (λ (x : State). x .cycles) (step-accounts s small K image (recordAt schedule i) .refused (eqb-false (r .stop) 0 h)) ∙ same-total s small
 
 -- a run returns the state behind its completed steps, which is the state before the step that was refused
-run-from-state : (k : ℕ) (K : Configuration) (image schedule : List ℕ) (i : ℕ) (s : State)
+run-from-state : (k : ℕ) (K : Setup) (image schedule : List ℕ) (i : ℕ) (s : State)
     → runFrom k K image schedule i s .state ≡ stateBehind (completedOf k K image schedule i s) K image schedule i s
 unfolding runFrom completedOf stateBehind
 run-from-state zero K image schedule i s = refl
@@ -190,7 +191,7 @@ run-from-state (suc k) K image schedule i s = on (eqb (r .stop) 0) refl (run-fro
     on true h rest = rest
     on false h rest = step-stops s K image (recordAt schedule i) .unchanged (eqb-false (r .stop) 0 h)
 
-pub run-state : (K : Configuration) (image schedule : List ℕ) (s : State)
+pub run-state : (K : Setup) (image schedule : List ℕ) (s : State)
     → runOf K image s schedule .state ≡ stateBehind (completedSteps K image s schedule) K image schedule 0 s
 unfolding runOf completedSteps stateBehind
 run-state K image schedule s = on (validMachine K image && eqb (length schedule % recordLength) 0)
@@ -204,7 +205,7 @@ run-state K image schedule s = on (validMachine K image && eqb (length schedule 
     on false = refl
 
 -- a run answers the number of its completed steps
-pub steps-completed : (K : Configuration) (image schedule : List ℕ) (s : State) → runOf K image s schedule .steps ≡ completedSteps K image s schedule
+pub steps-completed : (K : Setup) (image schedule : List ℕ) (s : State) → runOf K image s schedule .steps ≡ completedSteps K image s schedule
 unfolding runOf completedSteps
 steps-completed K image schedule s = on (validMachine K image && eqb (length schedule % recordLength) 0)
   where
@@ -220,7 +221,7 @@ pub record Counted (count cost : ℕ) (s : State) (r : Ran) : Type 0 where
   pub steps : r .steps ≡ count
   pub cycles : r .state .cycles ≡ (s .cycles + cost) % 4294967296
 
-pub run-counted : (K : Configuration) (image schedule : List ℕ) (s : State) → s .cycles < 4294967296
+pub run-counted : (K : Setup) (image schedule : List ℕ) (s : State) → s .cycles < 4294967296
     → Counted (completedSteps K image s schedule) (totalCost K image s schedule) s (runOf K image s schedule)
 unfolding runOf totalCost
 run-counted K image schedule s small =
@@ -235,6 +236,6 @@ run-counted K image schedule s small =
     on false = same-total s small
 
 -- the same of what is equal to the run
-pub counts-too : (K : Configuration) (image schedule : List ℕ) (s : State) (r : Ran) → s .cycles < 4294967296 → r ≡ runOf K image s schedule
+pub counts-too : (K : Setup) (image schedule : List ℕ) (s : State) (r : Ran) → s .cycles < 4294967296 → r ≡ runOf K image s schedule
     → (r ≡ runOf K image s schedule) × Counted (completedSteps K image s schedule) (totalCost K image s schedule) s r
 counts-too K image schedule s r small e = (e, rw e (run-counted K image schedule s small))

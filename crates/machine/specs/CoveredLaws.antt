@@ -5,6 +5,7 @@ use mathlib.Core.Path.{_≡_, _∙_, refl, sym, ap, ap₂}
 use mathlib.Core.Logic.{_≢_, _⊎_, inl, inr, ⊎-elim}
 use mathlib.Core.Bool.{Bool, true, false, _&&_, _||_, or-false, or-true, and-eq-true-iff, false≢true}
 use mathlib.Core.List.{List}
+use native.Mathlib.Nat.{lt-of-lt-of-le}
 use native.Mathlib.Omega.{arith}
 use lib.ListN.{length}
 use lib.Dec.{eqb}
@@ -12,11 +13,11 @@ use borrow.Author.Tests.{eqb-true}
 use Rattle.base.specs.Choice.{pick, from, count}
 use Rattle.base.specs.ChoiceLaws.{pick-has}
 use Rattle.base.specs.Formula.{eqb-yes, case-bool, same?, le?}
-use Rattle.base.specs.Lengths.{romLength, isEntryCost, recordLength}
-use Rattle.semantics.specs.declared.Configuration.{Configuration}
+use Rattle.base.specs.Lengths.{largestRom, isEntryCost, recordLength}
+use Rattle.semantics.specs.Setup.{Setup}
 use Rattle.semantics.specs.declared.State.{State}
 use Rattle.semantics.specs.declared.Ran.{Ran}
-use Rattle.semantics.specs.Step.{entryCost, validMachine, actedOf}
+use Rattle.semantics.specs.Step.{validMachine, actedOf}
 use Rattle.semantics.specs.Refusals.{StepNumber, run-number, run-seven}
 use Rattle.semantics.specs.Run.{ran, recordAt, runOf}
 use Rattle.coverage.specs.Map.{mapWords, isMapLength, marked, mapOf, emptyMap, joined, markedCount}
@@ -27,7 +28,7 @@ use Rattle.machine.specs.Reached.{beginsAt, someBelow, reached, coveredR
 use Rattle.machine.specs.Retired.{Completes, retired-completes, completes-retired, completes-place}
 
 -- an address at which an instruction began that a run completed: the state before that step was there
-pub record Reaches (K : Configuration) (image : List ℕ) (s : State) (schedule : List ℕ) (a : ℕ) : Type 0 where
+pub record Reaches (K : Setup) (image : List ℕ) (s : State) (schedule : List ℕ) (a : ℕ) : Type 0 where
   pub step : ℕ
   pub completed : step < completedSteps K image s schedule
   pub instruction : Completes K image (stateBehind step K image schedule 0 s) (recordAt schedule step)
@@ -49,7 +50,7 @@ some-has (suc n) f h =
     let l = r .1 in
     (r .0, omega (arith, l), r .2)) (case-bool (f n))
 
-module _ (K : Configuration) (image : List ℕ) (s : State) (schedule : List ℕ) where
+module _ (K : Setup) (image : List ℕ) (s : State) (schedule : List ℕ) where
   -- what is reached, in both forms
   reaches : (a : ℕ) → reached K image s schedule a ≡ true → Reaches K image s schedule a
   unfolding reached beginsAt
@@ -70,15 +71,15 @@ module _ (K : Configuration) (image : List ℕ) (s : State) (schedule : List ℕ
       (rw (completes-retired K image (stateBehind (r .step) K image schedule 0 s) (recordAt schedule (r .step)) (r .instruction), eqb-yes (r .address)))
 
   -- an address that is reached is one of ROM
-  reached-in-rom : (a : ℕ) → Reaches K image s schedule a → a < romLength
+  reached-in-rom : (a : ℕ) → Reaches K image s schedule a → a < K .part .rom
   unfolding completedSteps
   reached-in-rom a r =
       let e = r .address in
       let l = completes-place K image (stateBehind (r .step) K image schedule 0 s) (recordAt schedule (r .step)) (r .instruction) in
-      pick-has (λ (n : ℕ). r .step < n → a < romLength) (validMachine K image && eqb (length schedule % recordLength) 0) _ 0
+      pick-has (λ (n : ℕ). r .step < n → a < K .part .rom) (validMachine K image && eqb (length schedule % recordLength) 0) _ 0
       (λ h _.
       let valid = and-eq-true-iff (validMachine K image) _ .0 h .0 in
-      let size = eqb-true (length image) romLength (and-eq-true-iff (isEntryCost (entryCost K)) _ .0 valid .1) in
+      let size = eqb-true (length image) (K .part .rom) (and-eq-true-iff (isEntryCost (K .entryCost)) _ .0 valid .1) in
       omega (arith, e, l, size)) (λ _ f. absurd (omega (arith, f))) (r .completed)
 
   module _ (m : List ℕ) where
@@ -88,7 +89,7 @@ module _ (K : Configuration) (image : List ℕ) (s : State) (schedule : List ℕ
         pick-has (λ (x : List ℕ). length x ≡ length m) (isMapLength (length m)) _ m (λ h. length-map-of _ ∙ sym (eqb-true (length m) mapWords h)) (λ _. refl)
 
     module _ (size : length m ≡ mapWords) where
-      covered-marked : (a : ℕ) → a < romLength → marked (coveredMap K image s schedule m) a ≡ (marked m a || reached K image s schedule a)
+      covered-marked : (a : ℕ) → a < largestRom → marked (coveredMap K image s schedule m) a ≡ (marked m a || reached K image s schedule a)
       unfolding coveredMap
       covered-marked a h = rw (eqb-yes size) (marked-map-of (λ a. marked m a || reached K image s schedule a) a h)
 
@@ -96,16 +97,17 @@ module _ (K : Configuration) (image : List ℕ) (s : State) (schedule : List ℕ
       unfolding coveredMap
       covered-words = rw (eqb-yes size) (words-map-of (λ a. marked m a || reached K image s schedule a))
 
-      -- a mark is an address of ROM
-      mark-in-rom : (n : List ℕ) → length n ≡ mapWords → (a : ℕ) → marked n a ≡ true → a < romLength
-      mark-in-rom n e a h = ⊎-elim (λ (l : romLength ≤ a). absurd (false≢true (sym (marked-past n a e l) ∙ h))) (λ (l : a < romLength). l) (le? romLength a)
+      -- a mark is an address of the largest ROM
+      mark-in-rom : (n : List ℕ) → length n ≡ mapWords → (a : ℕ) → marked n a ≡ true → a < largestRom
+      mark-in-rom n e a h = ⊎-elim (λ (l : largestRom ≤ a). absurd (false≢true (sym (marked-past n a e l) ∙ h))) (λ (l : a < largestRom). l) (le? largestRom a)
 
       pub mark-stays : (a : ℕ) → marked m a ≡ true → marked (coveredMap K image s schedule m) a ≡ true
       mark-stays a h = covered-marked a (mark-in-rom m size a h) ∙ ap (λ (t : Bool). t || reached K image s schedule a) h
 
-      pub completed-marked : (a : ℕ) → Reaches K image s schedule a → marked (coveredMap K image s schedule m) a ≡ true
-      completed-marked a r =
-          covered-marked a (reached-in-rom a r) ∙ ap (λ (t : Bool). marked m a || t) (reached-where a r) ∙ or-true (marked m a)
+      -- a map has a bit for every address of a part's ROM
+      pub completed-marked : K .part .rom ≤ largestRom → (a : ℕ) → Reaches K image s schedule a → marked (coveredMap K image s schedule m) a ≡ true
+      completed-marked fits a r =
+          covered-marked a (lt-of-lt-of-le (reached-in-rom a r) fits) ∙ ap (λ (t : Bool). marked m a || t) (reached-where a r) ∙ or-true (marked m a)
 
       pub no-other-mark : (a : ℕ) → marked (coveredMap K image s schedule m) a ≡ true → (marked m a ≡ true) ⊎ Reaches K image s schedule a
       no-other-mark a h =
@@ -120,7 +122,7 @@ unfolding emptyMap
 empty-length = refl
 
 -- two runs with one map, of any configuration and image and from any state each, join what each marks in an empty map
-pub covered-joins : (K K′ : Configuration) (image image′ : List ℕ) (s s′ : State) (a b m : List ℕ) → length m ≡ mapWords → Words m
+pub covered-joins : (K K′ : Setup) (image image′ : List ℕ) (s s′ : State) (a b m : List ℕ) → length m ≡ mapWords → Words m
     → coveredMap K′ image′ s′ b (coveredMap K image s a m) ≡ joined (joined m (coveredMap K image s a emptyMap)) (coveredMap K′ image′ s′ b emptyMap)
 covered-joins K K′ image image′ s s′ a b m size small =
     same-marks second (joined (joined m one) other) (covered-length K′ image′ s′ b first ∙ full) (length-joined (joined m one) other)
@@ -147,11 +149,11 @@ covered-joins K K′ image image′ s s′ a b m size small =
     full : length first ≡ mapWords
     full = covered-length K image s a m ∙ size
 
-    alone : (K : Configuration) (image : List ℕ) (s : State) (a : List ℕ) (x : ℕ) → x < romLength → reached K image s a x ≡ marked (coveredMap K image s a emptyMap) x
+    alone : (K : Setup) (image : List ℕ) (s : State) (a : List ℕ) (x : ℕ) → x < largestRom → reached K image s a x ≡ marked (coveredMap K image s a emptyMap) x
     alone K image s a x h = sym (covered-marked K image s a emptyMap empty-length x h ∙ ap (λ (t : Bool). t || reached K image s a x) (marked-empty x h))
 
 -- where the configuration or a length is wrong, the run is refused by 7 and the map is as it was
-pub covered-refused : (K : Configuration) (image : List ℕ) (s : State) (schedule m : List ℕ) → Words m
+pub covered-refused : (K : Setup) (image : List ℕ) (s : State) (schedule m : List ℕ) → Words m
     → (isMapLength (length m) && (validMachine K image && eqb (length schedule % recordLength) 0)) ≡ false
     → (coveredRun K image s schedule (length m) ≡ ran s 0 7) × (coveredMap K image s schedule m ≡ m)
 unfolding coveredRun coveredMap runOf reached completedSteps
@@ -166,14 +168,14 @@ covered-refused K image s schedule m small = on (isMapLength (length m)) refl
     )
     on false h wrong = (refl, refl)
 
-pub covered-number : (K : Configuration) (image : List ℕ) (s : State) (schedule m : List ℕ) → StepNumber (coveredRun K image s schedule (length m) .stop)
+pub covered-number : (K : Setup) (image : List ℕ) (s : State) (schedule m : List ℕ) → StepNumber (coveredRun K image s schedule (length m) .stop)
 unfolding coveredRun
 covered-number K image s schedule m =
     pick-has (λ (r : Ran). StepNumber (r .stop)) (isMapLength (length m)) (runOf K image s schedule) (ran s 0 7) (λ _. run-number K image schedule s)
     (λ _. inr (inl refl))
 
 -- a run that is refused by 7 leaves the map
-pub covered-seven : (K : Configuration) (image : List ℕ) (s : State) (schedule m : List ℕ) → Words m → coveredRun K image s schedule (length m) .stop ≡ 7
+pub covered-seven : (K : Setup) (image : List ℕ) (s : State) (schedule m : List ℕ) → Words m → coveredRun K image s schedule (length m) .stop ≡ 7
     → coveredMap K image s schedule m ≡ m
 unfolding coveredRun
 covered-seven K image s schedule m small = on (isMapLength (length m)) refl
@@ -183,11 +185,11 @@ covered-seven K image s schedule m small = on (isMapLength (length m)) refl
     on false h z = covered-refused K image s schedule m small (rw h) .1
 
 -- the count from an empty map is how many addresses the run reaches
-pub covered-count : (K : Configuration) (image : List ℕ) (s : State) (schedule : List ℕ)
-    → markedCount (coveredMap K image s schedule emptyMap) ≡ count (reached K image s schedule) (from romLength 0)
+pub covered-count : (K : Setup) (image : List ℕ) (s : State) (schedule : List ℕ)
+    → markedCount (coveredMap K image s schedule emptyMap) ≡ count (reached K image s schedule) (from largestRom 0)
 unfolding markedCount
 covered-count K image s schedule =
-    count-same (marked (coveredMap K image s schedule emptyMap)) (reached K image s schedule) romLength 0 0
+    count-same (marked (coveredMap K image s schedule emptyMap)) (reached K image s schedule) largestRom 0 0
     (λ a l.
-    let h : 0 + a < romLength = omega (arith, l) in
+    let h : 0 + a < largestRom = omega (arith, l) in
     covered-marked K image s schedule emptyMap empty-length (0 + a) h ∙ ap (λ (t : Bool). t || reached K image s schedule (0 + a)) (marked-empty (0 + a) h))

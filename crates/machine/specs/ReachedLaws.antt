@@ -11,7 +11,7 @@ use lib.ListN.{length}
 use lib.Dec.{eqb, ltb}
 use Rattle.base.specs.Choice.{pick}
 use Rattle.base.specs.Formula.{eqb-yes, ltb-yes}
-use Rattle.semantics.specs.declared.Configuration.{Configuration}
+use Rattle.semantics.specs.Setup.{Setup}
 use Rattle.semantics.specs.declared.State.{State}
 use Rattle.semantics.specs.Step.{actedOf, stepOf}
 use Rattle.semantics.specs.declared.Ran.{Ran}
@@ -22,7 +22,7 @@ use Rattle.machine.specs.Count.{stateBehind, steps-completed}
 use Rattle.machine.specs.Reached.{Marks, beginsAt, reachedIn, reached, coveredMap}
 
 -- the state behind one record more
-step-more : (k : ℕ) (K : Configuration) (image schedule : List ℕ) (i : ℕ) (s : State)
+step-more : (k : ℕ) (K : Setup) (image schedule : List ℕ) (i : ℕ) (s : State)
     → stateBehind (suc k) K image schedule i s ≡ stepOf K image (stateBehind k K image schedule i s) (recordAt schedule (i + k)) .state
 unfolding stateBehind
 step-more zero K image schedule i s = rw (add-zero i)
@@ -30,11 +30,11 @@ step-more (suc k) K image schedule i s =
     let e : i + 1 + k ≡ i + suc k = omega arith in
     rw (← e) (step-more k K image schedule (i + 1) (stepOf K image s (recordAt schedule i) .state))
 
-pub state-more : (k : ℕ) (K : Configuration) (image schedule : List ℕ) (s : State)
+pub state-more : (k : ℕ) (K : Setup) (image schedule : List ℕ) (s : State)
     → stateBehind (suc k) K image schedule 0 s ≡ stepOf K image (stateBehind k K image schedule 0 s) (recordAt schedule k) .state
 state-more k K image schedule s = rw (zero-add k) at (step-more k K image schedule 0 s)
 
-pub state-next : (i : ℕ) (K : Configuration) (image schedule : List ℕ) (s : State)
+pub state-next : (i : ℕ) (K : Setup) (image schedule : List ℕ) (s : State)
     → stateBehind (i + 1) K image schedule 0 s ≡ stepOf K image (stateBehind i K image schedule 0 s) (recordAt schedule i) .state
 state-next i K image schedule s = rw (add-one i) (state-more i K image schedule s)
 
@@ -52,7 +52,7 @@ retired-marks : (m : List ℕ) (pc : ℕ) (retired : Bool) → Marks m (pick ret
 retired-marks m pc true a = marked-with m pc a
 retired-marks m pc false a = marks-none m (λ _. false) (λ _. refl) a
 
-module _ (K : Configuration) (image schedule : List ℕ) (s : State) (before m : List ℕ) (i : ℕ) (here : State) (e : here ≡ stateBehind i K image schedule 0 s) where
+module _ (K : Setup) (image schedule : List ℕ) (s : State) (before m : List ℕ) (i : ℕ) (here : State) (e : here ≡ stateBehind i K image schedule 0 s) where
   begins : (retired : Bool) → retired ≡ actedOf K image here (recordAt schedule i) .retired → (a : ℕ)
       → (retired && eqb (here .pc .0) a) ≡ beginsAt K image s schedule a i
   unfolding beginsAt
@@ -71,13 +71,13 @@ module _ (K : Configuration) (image schedule : List ℕ) (s : State) (before m :
       ∙ ap (λ (k : ℕ). marked before a || (inside before a && reachedIn k K image s schedule a)) (sym (add-one i))
 
 -- the marks of what is equal to the run
-pub marks-too : (K : Configuration) (image schedule : List ℕ) (s : State) (r : Ran) (before after : List ℕ) → r ≡ runOf K image s schedule
+pub marks-too : (K : Setup) (image schedule : List ℕ) (s : State) (r : Ran) (before after : List ℕ) → r ≡ runOf K image s schedule
     → Marks before after (reachedIn (r .steps) K image s schedule) → (r ≡ runOf K image s schedule) × Marks before after (reached K image s schedule)
 unfolding reached
 marks-too K image schedule s r before after e h = (e, rw (e, steps-completed K image schedule s) at h)
 
 -- a map of 64 words with the marks of a run is the one that is defined
-pub covered : (K : Configuration) (image schedule : List ℕ) (s : State) (before after : List ℕ) → length before ≡ mapWords → length after ≡ mapWords → Words after
+pub covered : (K : Setup) (image schedule : List ℕ) (s : State) (before after : List ℕ) → length before ≡ mapWords → length after ≡ mapWords → Words after
     → Marks before after (reached K image s schedule) → after ≡ coveredMap K image s schedule before
 unfolding coveredMap
 covered K image schedule s before after size size′ small h =

@@ -5,6 +5,7 @@ ghost use lib.ListN.{length};
 ghost use Rattle.semantics.specs.Reset.{resetState, IsReset};
 ghost use mathlib.Core.Bool.{true};
 ghost use Rattle.base.specs.Lengths.{recordLength};
+ghost use Rattle.semantics.specs.Setup.{setupOf};
 ghost use Rattle.semantics.specs.Step.{validMachine, stepOf};
 ghost use Rattle.semantics.specs.Run.{runFrom, runOf};
 ghost use Rattle.base.specs.Choice.{pick};
@@ -13,7 +14,7 @@ ghost use Rattle.machine.specs.Count.{completedSteps, totalCost, Counted
 ghost use Rattle.machine.specs.Reached.{Marks, reachedIn, reached, coveredRun, coveredMap};
 use base::RECORD_LENGTH;
 use base::RomAddr;
-use chip::Inputs;
+use chip::Record;
 use entry::Core;
 use semantics::Configuration;
 use semantics::Mode;
@@ -35,24 +36,25 @@ pub fn reset() -> State
 }
 
 // The bytes of a record.
-fn record_bytes(s: &[u8]) -> Inputs
+fn record_bytes(s: &[u8]) -> Record
     requires { ⌜ length (now s) ≡ recordLength ⌝ }
     ensures { λ r. ⌜ r ≡ now (s .entry) ⌝ }
 {
     [s[0], s[1], s[2], s[3], s[4], s[5], s[6], s[7]]
 }
 
-// Whether an entry's cycles are at most `base::GREATEST_ENTRY_COST`, and the image is of `base::IMAGE_LENGTH`.
+// Whether an entry's cycles are at most `base::GREATEST_ENTRY_COST`, and the image is of the part's length.
 fn valid_machine(configuration: Configuration, image: &[u8]) -> bool
-    ensures { λ r. ⌜ r ≡ validMachine configuration (now (image .entry)) ⌝ }
+    ensures { λ r. ⌜ r ≡ validMachine (setupOf configuration) (now (image .entry)) ⌝ }
 {
-    base::is_entry_cost(configuration.entry_cost) & base::is_image_length(image.len())
+    let profile = configuration.profile;
+    base::is_entry_cost(configuration.entry_cost) & base::is_image_of(profile, image.len())
 }
 
-// One step of a state on an image (`IMAGE_LENGTH`) in a configuration, under a record (`RECORD_LENGTH`): the next state and 0, or the state before
-// it and the number of the refusal.
+// One step of a state on an image of the part's length in a configuration, under a record (`RECORD_LENGTH`): the next state and 0, or the state
+// before it and the number of the refusal.
 pub fn step(configuration: Configuration, image: &[u8], state: State, rec: &[u8]) -> Stepped
-    ensures { λ r. ⌜ r ≡ stepOf configuration (now (image .entry)) state (now (rec .entry)) ⌝ }
+    ensures { λ r. ⌜ r ≡ stepOf (setupOf configuration) (now (image .entry)) state (now (rec .entry)) ⌝ }
 {
     if !valid_machine(configuration, image) {
         return Stepped {
@@ -99,9 +101,9 @@ fn run_records(
     schedule: &[u8],
     map: &mut [u64],
 ) -> Ran
-    requires { ⌜ validMachine configuration (now image) ≡ true ⌝ }
-    ensures run { λ r. ⌜ r ≡ runFrom (length (now (schedule .entry)) / recordLength) configuration (now (image .entry)) (now (schedule .entry)) 0 state ⌝ }
-    ensures map { λ r. ⌜ Marks (now (map .entry)) (now (map .exit)) (reachedIn (r .steps) configuration (now (image .entry)) state (now (schedule .entry))) ⌝ }
+    requires { ⌜ validMachine (setupOf configuration) (now image) ≡ true ⌝ }
+    ensures run { λ r. ⌜ r ≡ runFrom (length (now (schedule .entry)) / recordLength) (setupOf configuration) (now (image .entry)) (now (schedule .entry)) 0 state ⌝ }
+    ensures map { λ r. ⌜ Marks (now (map .entry)) (now (map .exit)) (reachedIn (r .steps) (setupOf configuration) (now (image .entry)) state (now (schedule .entry))) ⌝ }
 {
     let count = schedule.len() / RECORD_LENGTH;
     let mut regs = state.regs;
@@ -139,8 +141,8 @@ fn run_marking(
     schedule: &[u8],
     map: &mut [u64],
 ) -> Ran
-    ensures run { λ r. ⌜ r ≡ runOf configuration (now (image .entry)) state (now (schedule .entry)) ⌝ }
-    ensures map { λ r. ⌜ Marks (now (map .entry)) (now (map .exit)) (reached configuration (now (image .entry)) state (now (schedule .entry))) ⌝ }
+    ensures run { λ r. ⌜ r ≡ runOf (setupOf configuration) (now (image .entry)) state (now (schedule .entry)) ⌝ }
+    ensures map { λ r. ⌜ Marks (now (map .entry)) (now (map .exit)) (reached (setupOf configuration) (now (image .entry)) state (now (schedule .entry))) ⌝ }
 {
     if !valid_machine(configuration, image) {
         return Ran {
@@ -162,8 +164,8 @@ fn run_marking(
 // A run over a schedule of whole records on an image in a configuration: the state after its completed steps, how many they are, and the number
 // that ended it, or 0.
 pub fn run(configuration: Configuration, image: &[u8], state: State, schedule: &[u8]) -> Ran
-    ensures run { λ r. ⌜ r ≡ runOf configuration (now (image .entry)) state (now (schedule .entry)) ⌝ }
-    ensures counted { λ r. ⌜ Counted (completedSteps configuration (now (image .entry)) state (now (schedule .entry))) (totalCost configuration (now (image .entry)) state (now (schedule .entry))) state r ⌝ }
+    ensures run { λ r. ⌜ r ≡ runOf (setupOf configuration) (now (image .entry)) state (now (schedule .entry)) ⌝ }
+    ensures counted { λ r. ⌜ Counted (completedSteps (setupOf configuration) (now (image .entry)) state (now (schedule .entry))) (totalCost (setupOf configuration) (now (image .entry)) state (now (schedule .entry))) state r ⌝ }
 {
     let mut none = [0u64; 1];
     run_marking(configuration, image, state, schedule, &mut none[..0])
@@ -178,8 +180,8 @@ pub fn run_covered(
     schedule: &[u8],
     map: &mut [u64],
 ) -> Ran
-    ensures run { λ r. ⌜ r ≡ coveredRun configuration (now (image .entry)) state (now (schedule .entry)) (length (now (map .entry))) ⌝ }
-    ensures map { λ _. ⌜ now (map .exit) ≡ coveredMap configuration (now (image .entry)) state (now (schedule .entry)) (now (map .entry)) ⌝ }
+    ensures run { λ r. ⌜ r ≡ coveredRun (setupOf configuration) (now (image .entry)) state (now (schedule .entry)) (length (now (map .entry))) ⌝ }
+    ensures map { λ _. ⌜ now (map .exit) ≡ coveredMap (setupOf configuration) (now (image .entry)) state (now (schedule .entry)) (now (map .entry)) ⌝ }
 {
     if map.len() != coverage::WORDS {
         return Ran {

@@ -1,4 +1,6 @@
 // States and configurations of the machine as the vector files give them.
+use base::IMAGE_4K;
+use base::Profile;
 use base::RomAddr;
 use base::byte_at;
 use semantics::Configuration;
@@ -80,14 +82,25 @@ pub fn is_supported_state(bytes: &[u8]) -> bool {
     word_at(bytes, DIVIDER) == 0
 }
 
+fn profile_of(n: u8) -> Profile {
+    match n {
+        0 => Profile::Rom4K,
+        _ => Profile::Rom2K,
+    }
+}
+
 // The configuration that is given as bytes.
 pub fn configuration_of(bytes: &[u8]) -> Configuration {
     Configuration {
+        profile: profile_of(byte_at(bytes, PROFILE)),
         entry_cost: byte_at(bytes, ENTRY_COST),
     }
 }
 
-// Whether the machine has a configuration that is given as bytes: only the first profile yet.
-pub fn is_supported_configuration(bytes: &[u8]) -> bool {
-    byte_at(bytes, PROFILE) == 0
+// The image of the configuration's part: the front of a buffer that has room for each part's.
+pub fn image_for(configuration: Configuration, buffer: &[u8; IMAGE_4K]) -> &[u8] {
+    let profile = configuration.profile;
+    let whole = &buffer[..];
+    let end = base::image_length(profile);
+    &whole[0..end]
 }

@@ -1,5 +1,5 @@
 // Coverage maps as the vector files give them, a list of marked addresses. Made apart from `coverage::mark`, since the test programs compare what that has marked.
-use base::ROM_END;
+use base::LARGEST_ROM;
 use coverage::Map;
 use coverage::WORDS;
 
@@ -11,7 +11,7 @@ pub struct Marks {
 
 // Marks an address of ROM; whether it had no mark.
 fn mark(map: &mut Map, a: u16) -> bool {
-    if ROM_END <= a {
+    if LARGEST_ROM <= a {
         return false;
     }
     let word = (a / 64) as usize;
@@ -27,7 +27,7 @@ fn read_mark(fd: i32, map: &mut Map) -> Marks {
     let n = io::read_full(fd, &mut two);
     let a = test_support::word(two[0], two[1]);
     Marks {
-        whole: (n == 2) & (a < ROM_END),
+        whole: (n == 2) & (a < LARGEST_ROM),
         distinct: mark(map, a),
     }
 }

@@ -4,7 +4,8 @@
 // leaves open (RAM, FLAGS, SP) is tried as all zeros and as all ones.
 ghost use Prim.Native.Nat.{_<_};
 use base::FLAGS_INDEX;
-use base::IMAGE_LENGTH;
+use base::IMAGE_4K;
+use base::Profile;
 use base::RECORD_LENGTH;
 use base::RomAddr;
 use base::SP;
@@ -240,7 +241,7 @@ fn set(
     at: usize,
     end: usize,
     regs: &mut [u8; 256],
-    image: &mut [u8; IMAGE_LENGTH],
+    image: &mut [u8; IMAGE_4K],
     rest: Rest,
 ) -> Rest {
     let mut r = rest;
@@ -259,7 +260,7 @@ fn set(
 }
 
 // A word without `=`: a byte of code, a bar, or nothing between two spaces.
-fn code(text: &[u8], at: usize, end: usize, image: &mut [u8; IMAGE_LENGTH], rest: Rest) -> Rest {
+fn code(text: &[u8], at: usize, end: usize, image: &mut [u8; IMAGE_4K], rest: Rest) -> Rest {
     if (at == end) | (byte_at(text, at) == b'|') {
         return rest;
     }
@@ -278,7 +279,7 @@ fn word(
     at: usize,
     end: usize,
     regs: &mut [u8; 256],
-    image: &mut [u8; IMAGE_LENGTH],
+    image: &mut [u8; IMAGE_4K],
     rest: Rest,
 ) -> Rest {
     let equals = find(text, at, end, b'=');
@@ -306,7 +307,7 @@ fn words(
     from: usize,
     end: usize,
     regs: &mut [u8; 256],
-    image: &mut [u8; IMAGE_LENGTH],
+    image: &mut [u8; IMAGE_4K],
     rest: Rest,
 ) -> Rest {
     let mut turns = 1000usize;
@@ -367,7 +368,10 @@ fn counter_behind(rest: Rest) -> Rest {
 
 // No page gives an interrupt entry cycles.
 fn configuration() -> Configuration {
-    Configuration { entry_cost: 0 }
+    Configuration {
+        profile: Profile::Rom4K,
+        entry_cost: 0,
+    }
 }
 
 // The records of a schedule up to `end`, or all of them.
@@ -388,7 +392,7 @@ fn stepped(ran: Ran) -> Stepped {
 }
 
 // So many steps, under records that request nothing and read zeros.
-fn steps_from(image: &[u8; IMAGE_LENGTH], state: State, steps: u8) -> Stepped {
+fn steps_from(image: &[u8; IMAGE_4K], state: State, steps: u8) -> Stepped {
     if steps == 1 {
         let rec = [0u8; RECORD_LENGTH];
         return machine::step(configuration(), image, state, &rec);
@@ -468,7 +472,7 @@ fn first_difference(found: &[u8; 256], expected: &[u8; 256], rest: Difference) -
 
 // Runs the example of a line on what the page gives, and compares.
 fn example(text: &[u8], given: usize, at: usize, end: usize, open: u8) -> Difference {
-    let mut image = [255u8; IMAGE_LENGTH];
+    let mut image = [255u8; IMAGE_4K];
     let mut regs = open_registers(open);
     let colon = find(text, at, end, b':');
     let arrow = find(text, colon, end, b'>');

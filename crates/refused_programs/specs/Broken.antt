@@ -9,39 +9,39 @@ use native.Mathlib.Omega.{arith}
 use lib.ListN.{length, replicate, length-replicate}
 use Rattle.base.specs.Addresses.{romAddr}
 use Rattle.base.specs.Cells.{filled-cells}
-use Rattle.base.specs.Lengths.{romLength, recordLength}
+use Rattle.base.specs.Lengths.{recordLength}
 use Rattle.semantics.specs.Reset.{resetState}
 use Rattle.semantics.specs.ResetLaws.{reset-is-reset}
 use Rattle.semantics.specs.Run.{recordAt}
-use Rattle.certificate.specs.declared.Verdict.the-variants.{Refused}
+use Rattle.certificate.specs.declared.Verdict.the-variants.{Accepted, Refused}
 use Rattle.safety.specs.Verdicts.{verdictOn}
 use Rattle.safety.specs.Statement.{Opener, byReset, byCall, byInterrupt, Demand3, StepRight, Monitored, Walk, fromReset, monitorStep}
 use Rattle.refused_programs.specs.Programs.{Program, certificate, stopping, straying, unnamed, pointing, pushing, returning, looping}
-use Rattle.refused_programs.specs.Programs.{charging, popping, fetching, resuming, serving, entering, crossing, jumping, leaving, exceeding}
+use Rattle.refused_programs.specs.Programs.{charging, popping, fetching, fetchingSmall, fetchingLarge, resuming, serving, entering, crossing, jumping, leaving, exceeding}
 use Rattle.refused_programs.specs.Opened.{opened}
 use Rattle.refused_programs.specs.Computed.{verdict-is}
 
 -- refused at an address, and not as demanded
 pub record Breaks (p : Program) (rule address : ℕ) : Type 0 where
-  pub verdict : verdictOn (certificate p) (p .image) ≡ Refused rule (romAddr address)
-  pub broken : Demand3 (certificate p) (p .image) → ⊥
+  pub verdict : verdictOn (p .part .rom) (certificate p) (p .image) ≡ Refused rule (romAddr address)
+  pub broken : Demand3 (p .part) (certificate p) (p .image) → ⊥
 
 module _ (p : Program) where
   -- step k is right, counted from record i on
   abbrev RightAt : ℕ → (ℕ → ℕ) → List ℕ → ℕ → Monitored → Type 0
-  RightAt zero tables schedule i m = StepRight (certificate p) (p .image) tables m (recordAt schedule i)
+  RightAt zero tables schedule i m = StepRight (p .part) (certificate p) (p .image) tables m (recordAt schedule i)
   RightAt (suc k) tables schedule i m =
-      RightAt k tables schedule (i + 1) (monitorStep (certificate p) (p .image) m (recordAt schedule i))
+      RightAt k tables schedule (i + 1) (monitorStep (p .part) (certificate p) (p .image) m (recordAt schedule i))
 
   right-at : (k : ℕ) (tables : ℕ → ℕ) (schedule : List ℕ) (i : ℕ) (m : Monitored)
-      → Walk (certificate p) (p .image) (suc k) tables schedule i m → RightAt k tables schedule i m
+      → Walk (p .part) (certificate p) (p .image) (suc k) tables schedule i m → RightAt k tables schedule i m
   right-at zero tables schedule i m w = w .0
   right-at (suc k) tables schedule i m w =
-      right-at k tables schedule (i + 1) (monitorStep (certificate p) (p .image) m (recordAt schedule i)) (w .1)
+      right-at k tables schedule (i + 1) (monitorStep (p .part) (certificate p) (p .image) m (recordAt schedule i)) (w .1)
 
   -- step k of the run from the reset state whose open bytes are 0; each byte of the schedule is 4, so each record requests the first external
   -- source's interrupt
-  step : (d : Demand3 (certificate p) (p .image)) (k : ℕ)
+  step : (d : Demand3 (p .part) (certificate p) (p .image)) (k : ℕ)
       → RightAt k (d .0) (replicate (recordLength * suc k) 4) 0 (fromReset resetState)
   step d k =
       let schedule : List ℕ = replicate (recordLength * suc k) 4 in
@@ -50,7 +50,7 @@ module _ (p : Program) where
       let b = filled-cells (λ (i x : ℕ). x < 256) (recordLength * suc k) 4 (λ (i : ℕ). omega arith) (λ (i : ℕ). omega arith) in
       let r = d .1 resetState reset-is-reset schedule (record { whole = omega arith; bytes = b }) in
       right-at k (d .0) schedule 0 (fromReset resetState)
-      (subst (λ (n : ℕ). Walk (certificate p) (p .image) n (d .0) schedule 0 (fromReset resetState)) e (r .walk))
+      (subst (λ (n : ℕ). Walk (p .part) (certificate p) (p .image) n (d .0) schedule 0 (fromReset resetState)) e (r .walk))
 
 -- it stops
 pub stopping-breaks : Breaks stopping 22 0x100
@@ -131,9 +131,25 @@ fetching-breaks = record {
   verdict = verdict-is fetching tt refl;
   broken = λ d.
       let stops : _≡_ {A = ℕ} 14 0 = step fetching d 1 .goes in
-      let outside : 0x1000 < romLength = step fetching d 1 .event .pointers in
+      let outside : 0x1000 < 0x1000 = step fetching d 1 .event .pointers in
       omega arith;
 }
+
+-- request 04: RR2 gives 0800H, the first address behind the 2K part's ROM
+pub fetching-small-breaks : Breaks fetchingSmall 24 0x102
+unfolding opened
+fetching-small-breaks = record {
+  verdict = verdict-is fetchingSmall tt refl;
+  broken = λ d.
+      let stops : _≡_ {A = ℕ} 14 0 = step fetchingSmall d 1 .goes in
+      let outside : 0x800 < 0x800 = step fetchingSmall d 1 .event .pointers in
+      omega arith;
+}
+
+-- with the same code and the same certificate the 4K part's image is accepted
+pub fetching-large-accepted : verdictOn (fetchingLarge .part .rom) (certificate fetchingLarge) (fetchingLarge .image) ≡ Accepted
+unfolding opened
+fetching-large-accepted = verdict-is fetchingLarge tt refl
 
 -- IRET takes the pushed byte for FLAGS, FLAGS for the high half of its address and the high half for the low one: to 0001H and not to 0107H
 pub resuming-breaks : Breaks resuming 25 0x142

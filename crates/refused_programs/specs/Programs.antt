@@ -1,17 +1,19 @@
--- Seventeen small programs with their certificates, each of which breaks one rule.
+-- Eighteen small programs with their certificates, each of which breaks one rule.
 -- Assumes nothing.
 use mathlib.Core.List.{List, [], _∷_, _++_}
 use Prim.Native.Nat.{ℕ, _-_}
 use lib.ListN.{length, replicate}
 use Rattle.base.specs.Choice.{choose}
-use Rattle.base.specs.Lengths.{romLength}
+use Rattle.base.specs.declared.Profile.the-variants.{Rom4K, Rom2K}
+use Rattle.base.specs.Parts.{Part, partOf}
 use Rattle.certificate.specs.Layout.{Certificate, certificateFrom}
 use Rattle.logger_cases.specs.Gathered.{upTo}
 use Rattle.logger_cases.specs.Linearised as linearised
 
--- an image, and what its certificate has: entries by address, cells by register, rows by routine, the floor, the cycles of
+-- a part, an image, and what its certificate has: entries by address, cells by register, rows by routine, the floor, the cycles of
 -- an interrupt entry
 pub record Program : Type 0 where
+  pub part : Part
   pub image : List ℕ
   pub entries : List (ℕ × List ℕ)
   pub cells : List (ℕ × List ℕ)
@@ -33,9 +35,9 @@ certificate p =
 abbrev padded : List ℕ → List ℕ
 padded code = code ++ replicate (32 - length code) 0xFF
 
-unfoldable pub imageOf : List ℕ → List ℕ → List ℕ → List ℕ
-imageOf main routine service =
-    (0x01 ∷ 0x40 ∷ []) ++ (replicate 254 0xFF ++ (padded main ++ (padded routine ++ (padded service ++ replicate (romLength - codeEnd) 0xFF))))
+unfoldable pub imageOf : Part → List ℕ → List ℕ → List ℕ → List ℕ
+imageOf part main routine service =
+    (0x01 ∷ 0x40 ∷ []) ++ (replicate 254 0xFF ++ (padded main ++ (padded routine ++ (padded service ++ replicate (part .rom - codeEnd) 0xFF))))
 
 -- the entry of an address, with one claim: routine, depth, B below 256; cell, lo, hi
 abbrev claiming : ℕ → ℕ → ℕ → ℕ → ℕ → ℕ → ℕ → ℕ × List ℕ
@@ -54,16 +56,21 @@ mains x = (x, 1 ∷ 1 ∷ 0 ∷ [])
 abbrev row : ℕ → ℕ → ℕ → ℕ → ℕ → ℕ × List ℕ
 row n start side need bound = (n, 0x01 ∷ start ∷ side ∷ need ∷ 0 ∷ bound ∷ [])
 
--- main and routine, with main's need; the service is IRET, with bound 10
-abbrev programOf : List ℕ → List ℕ → ℕ → List (ℕ × List ℕ) → List (ℕ × List ℕ) → List (ℕ × List ℕ) → ℕ → Program
-programOf main routine need entries cells rows floor = record {
-  image = imageOf main routine (0xBF ∷ []);
+-- main and routine on a part, with main's need; the service is IRET, with bound 10
+abbrev programOn : Part → List ℕ → List ℕ → ℕ → List (ℕ × List ℕ) → List (ℕ × List ℕ) → List (ℕ × List ℕ) → ℕ → Program
+programOn part main routine need entries cells rows floor = record {
+  part = part;
+  image = imageOf part main routine (0xBF ∷ []);
   entries = entry 0x140 2 0 10 ∷ entries;
   cells = cells;
   rows = row 1 0x00 1 need 0 ∷ row 2 0x40 2 0 10 ∷ rows;
   floor = floor;
   entryCost = 0;
 }
+
+-- on the 4K part
+abbrev programOf : List ℕ → List ℕ → ℕ → List (ℕ × List ℕ) → List (ℕ × List ℕ) → List (ℕ × List ℕ) → ℕ → Program
+programOf = programOn (partOf Rom4K)
 
 -- main is LD SP,#C0H; CALL 0120H, again and again
 abbrev calling : List ℕ → ℕ → List (ℕ × List ℕ) → List (ℕ × List ℕ) → Program
@@ -75,7 +82,8 @@ calling routine need entries rows =
 -- bound, and the cycles of its entry
 abbrev interrupted : List ℕ → ℕ → ℕ → ℕ → List (ℕ × List ℕ) → Program
 interrupted service need bound cost entries = record {
-  image = imageOf (0xE6 ∷ 0xD9 ∷ 0xC0 ∷ 0xE6 ∷ 0xE8 ∷ 0x02 ∷ 0x9F ∷ 0x8B ∷ 0xFE ∷ []) [] service;
+  part = partOf Rom4K;
+  image = imageOf (partOf Rom4K) (0xE6 ∷ 0xD9 ∷ 0xC0 ∷ 0xE6 ∷ 0xE8 ∷ 0x02 ∷ 0x9F ∷ 0x8B ∷ 0xFE ∷ []) [] service;
   entries = entry 0x100 1 255 0 ∷ entry 0x103 1 0 0 ∷ entry 0x106 1 0 0 ∷ entry 0x107 1 0 0 ∷ entries;
   cells = mains 0xE8 ∷ [];
   rows = row 1 0x00 1 0 0 ∷ row 2 0x40 2 need bound ∷ [];
@@ -125,12 +133,23 @@ popping =
     programOf (0xE6 ∷ 0xD9 ∷ 0xC0 ∷ 0x50 ∷ 0xC0 ∷ 0x8B ∷ 0xFC ∷ []) [] 0
     (entry 0x100 1 255 0 ∷ entry 0x103 1 0 0 ∷ entry 0x105 1 0 0 ∷ []) (mains 0xC0 ∷ []) [] 0xA0
 
--- LD R2,#10H; LDC R0,@RR2, with R2 claimed 10H; then a jump to itself
-unfoldable pub fetching : Program
-fetching =
-    programOf (0x2C ∷ 0x10 ∷ 0xC3 ∷ 0x02 ∷ 0x8B ∷ 0xFE ∷ []) [] 0
-    (entry 0x100 1 255 0 ∷ claiming 0x102 1 255 0 0xC2 0x10 0x10 ∷ entry 0x104 1 255 0 ∷ [])
+-- LD R2,#h; LDC R0,@RR2, with R2 claimed h; then a jump to itself
+abbrev fetchingFrom : Part → ℕ → Program
+fetchingFrom part h =
+    programOn part (0x2C ∷ h ∷ 0xC3 ∷ 0x02 ∷ 0x8B ∷ 0xFE ∷ []) [] 0
+    (entry 0x100 1 255 0 ∷ claiming 0x102 1 255 0 0xC2 h h ∷ entry 0x104 1 255 0 ∷ [])
     (mains 0xC0 ∷ mains 0xC2 ∷ []) [] 0xA0
+
+-- from 1000H on
+unfoldable pub fetching : Program
+fetching = fetchingFrom (partOf Rom4K) 0x10
+
+-- request 04: from 0800H on, on the 2K part; and on the 4K part, where it is accepted
+unfoldable pub fetchingSmall : Program
+fetchingSmall = fetchingFrom (partOf Rom2K) 0x08
+
+unfoldable pub fetchingLarge : Program
+fetchingLarge = fetchingFrom (partOf Rom4K) 0x08
 
 -- the service is PUSH R0; IRET
 unfoldable pub resuming : Program
@@ -162,6 +181,7 @@ leaving = programOf (0xAF ∷ []) [] 0 (entry 0x100 1 255 0 ∷ []) [] [] 0xA0
 -- the program of `logger_cases` S`Linearised`, which takes its pointer from a table in ROM, with one byte of the table too large
 unfoldable pub exceeding : Program
 exceeding = record {
+  part = partOf Rom4K;
   image = linearised.imageWith 0x10;
   entries = linearised.entries;
   cells = linearised.cells;

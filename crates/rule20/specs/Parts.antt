@@ -4,7 +4,7 @@ use Prim.Native.Nat.{ℕ, _+_, _*_}
 use mathlib.Core.List.{List}
 use lib.ListN.{getD}
 use Rattle.base.specs.Formula.{Formula, Holds, le, lt, eq, neg, _&_, _⇒_, forallBelow}
-use Rattle.base.specs.Lengths.{romLength, greatestEntryCost}
+use Rattle.base.specs.Lengths.{largestRom, greatestEntryCost}
 use Rattle.certificate.specs.Layout.{Certificate}
 use Rattle.safety.specs.Rules.{unloaded, present, used, cellRule, claimRule, compareRule, entryRule, startRule, bareRule, addressRule, rule20}
 
@@ -41,11 +41,11 @@ module _ (C : Certificate) where
   unfoldable pub cellsRule : Formula
   cellsRule = forallBelow 256 (cellRule C)
 
-  unfoldable pub startsRule : Formula
-  startsRule = forallBelow 64 (startRule C)
+  unfoldable pub startsRule : ℕ → Formula
+  startsRule rom = forallBelow 64 (startRule C rom)
 
-  unfoldable pub addressesRule : Formula
-  addressesRule = forallBelow romLength (addressRule C)
+  unfoldable pub addressesRule : ℕ → Formula
+  addressesRule rom = forallBelow largestRom (addressRule C rom)
 
   unfoldable pub mainRule : Formula
   mainRule = neg (used C 0) & (eq (C .start 1) 0x100 & eq (C .side 1) 1 & eq (C .bound 1) 0) & bareRule C (C .start 1)
@@ -58,14 +58,14 @@ module _ (C : Certificate) where
   fixedRule image = lt (C .floor) (C .top) & le (C .top) 0xC0 & le (C .entryCost) greatestEntryCost & mainRule & serviceRule image
 
   -- rule 20 is its parts
-  pub rule20-split : (image : List ℕ) → Holds (rule20 C image)
-      → Holds (fixedRule image) × Holds cellsRule × Holds startsRule × Holds addressesRule
+  pub rule20-split : (rom : ℕ) (image : List ℕ) → Holds (rule20 C rom image)
+      → Holds (fixedRule image) × Holds cellsRule × Holds (startsRule rom) × Holds (addressesRule rom)
   unfolding rule20 fixedRule mainRule serviceRule cellsRule startsRule addressesRule
-  rule20-split image (f, (t, (cells, (zero, (s1, (d1, (b1, (s2, (d2, (starts, (bare1, (bare2, (addresses, cost))))))))))))) =
+  rule20-split rom image (f, (t, (cells, (zero, (s1, (d1, (b1, (s2, (d2, (starts, (bare1, (bare2, (addresses, cost))))))))))))) =
       ((f, (t, (cost, ((zero, ((s1, (d1, b1)), bare1)), (s2, (d2, bare2)))))), cells, starts, addresses)
 
-  pub rule20-join : (image : List ℕ) → Holds (fixedRule image) → Holds cellsRule → Holds startsRule → Holds addressesRule
-      → Holds (rule20 C image)
+  pub rule20-join : (rom : ℕ) (image : List ℕ) → Holds (fixedRule image) → Holds cellsRule → Holds (startsRule rom) → Holds (addressesRule rom)
+      → Holds (rule20 C rom image)
   unfolding rule20 fixedRule mainRule serviceRule cellsRule startsRule addressesRule
-  rule20-join image (f, (t, (cost, ((zero, ((s1, (d1, b1)), bare1)), (s2, (d2, bare2)))))) cells starts addresses =
+  rule20-join rom image (f, (t, (cost, ((zero, ((s1, (d1, b1)), bare1)), (s2, (d2, bare2)))))) cells starts addresses =
       (f, (t, (cells, (zero, (s1, (d1, (b1, (s2, (d2, (starts, (bare1, (bare2, (addresses, cost)))))))))))))

@@ -127,13 +127,13 @@ fn entry_rule(cert: &[u8], e: Entry) -> bool
     true
 }
 
-// An address with or without an entry.
-fn address_rule(cert: &[u8], a: RomAddr) -> bool
-    ensures { λ r. ⌜ r ≡ decide (addressRule (certificateOf (now (cert .entry))) (a .0)) ⌝ }
+// An address with or without an entry; none stands past ROM's end.
+fn address_rule(rom: u16, cert: &[u8], a: RomAddr) -> bool
+    ensures { λ r. ⌜ r ≡ decide (addressRule (certificateOf (now (cert .entry))) rom (a .0)) ⌝ }
 {
     let e = entries::entry_of(entries::entry_part(cert, a));
     let n = e.routine;
-    ((n != 0) | empty_entry(e)) & ((n == 0) | entry_rule(cert, e))
+    ((n != 0) | empty_entry(e)) & ((n == 0) | (a.0 < rom) & entry_rule(cert, e))
 }
 
 // The depth at the start of routine n.
@@ -144,13 +144,13 @@ fn start_depth(n: u8) -> u8
 }
 
 // Every start has its own routine's entry, depth 0 (main 255).
-fn start_rule(cert: &[u8], n: u8) -> bool
-    ensures { λ r. ⌜ r ≡ decide (startRule (certificateOf (now (cert .entry))) n) ⌝ }
+fn start_rule(rom: u16, cert: &[u8], n: u8) -> bool
+    ensures { λ r. ⌜ r ≡ decide (startRule (certificateOf (now (cert .entry))) rom n) ⌝ }
 {
     let row = entries::routine_row(cert, n);
     let e = entries::entry_of(entries::entry_part(cert, row.start));
     let own = (e.routine == n) & (e.depth == start_depth(n));
-    !used(cert, n) | (row.start.0 < base::ROM_END) & own & ((row.side == 1) | (row.side == 2))
+    !used(cert, n) | (row.start.0 < rom) & own & ((row.side == 1) | (row.side == 2))
 }
 
 // Without claims or compare.
@@ -174,12 +174,12 @@ fn cells_rule(cert: &[u8]) -> bool
     true
 }
 
-fn starts_rule(cert: &[u8]) -> bool
-    ensures { λ r. ⌜ r ≡ decide (startsRule (certificateOf (now (cert .entry)))) ⌝ }
+fn starts_rule(rom: u16, cert: &[u8]) -> bool
+    ensures { λ r. ⌜ r ≡ decide (startsRule (certificateOf (now (cert .entry))) rom) ⌝ }
 {
     let mut n: u8 = 0;
     while n < ROUTINES {
-        if !start_rule(cert, n) {
+        if !start_rule(rom, cert, n) {
             return false;
         }
         n += 1;
@@ -187,12 +187,12 @@ fn starts_rule(cert: &[u8]) -> bool
     true
 }
 
-fn addresses_rule(cert: &[u8]) -> bool
-    ensures { λ r. ⌜ r ≡ decide (addressesRule (certificateOf (now (cert .entry)))) ⌝ }
+fn addresses_rule(rom: u16, cert: &[u8]) -> bool
+    ensures { λ r. ⌜ r ≡ decide (addressesRule (certificateOf (now (cert .entry))) rom) ⌝ }
 {
     let mut a: u16 = 0;
-    while a < base::ROM_END {
-        if !address_rule(cert, RomAddr(a)) {
+    while a < base::LARGEST_ROM {
+        if !address_rule(rom, cert, RomAddr(a)) {
             return false;
         }
         a += 1;
@@ -228,9 +228,9 @@ fn fixed_rule(image: &[u8], cert: &[u8]) -> bool
     (floor < top) & (top <= TOP_LIMIT) & cost & main_rule(cert) & service_rule(image, cert)
 }
 
-// Rule 20.
-pub fn rule20(image: &[u8], cert: &[u8]) -> bool
-    ensures { λ r. ⌜ r ≡ decide (Rattle.safety.specs.Rules.rule20 (certificateOf (now (cert .entry))) (now (image .entry))) ⌝ }
+// Rule 20, for a ROM of rom bytes.
+pub fn rule20(rom: u16, image: &[u8], cert: &[u8]) -> bool
+    ensures { λ r. ⌜ r ≡ decide (Rattle.safety.specs.Rules.rule20 (certificateOf (now (cert .entry))) rom (now (image .entry))) ⌝ }
 {
     if !fixed_rule(image, cert) {
         return false;
@@ -238,10 +238,10 @@ pub fn rule20(image: &[u8], cert: &[u8]) -> bool
     if !cells_rule(cert) {
         return false;
     }
-    if !starts_rule(cert) {
+    if !starts_rule(rom, cert) {
         return false;
     }
-    if !addresses_rule(cert) {
+    if !addresses_rule(rom, cert) {
         return false;
     }
     true

@@ -87,35 +87,35 @@ fn pointed_write(cert: &[u8], a: RomAddr, w: Write) -> bool
 }
 
 // The claims on both halves of the pair, with the offset unwrapped, stay in ROM.
-fn pair_in_rom(cert: &[u8], a: RomAddr, p: RegAddr, up: u16, down: u16) -> bool
-    ensures { λ r. ⌜ r ≡ decide (codeInRom (certificateOf (now (cert .entry))) (a .0) (CodeAccess.Pair p up down)) ⌝ }
+fn pair_in_rom(rom: u16, cert: &[u8], a: RomAddr, p: RegAddr, up: u16, down: u16) -> bool
+    ensures { λ r. ⌜ r ≡ decide (codeInRom (certificateOf (now (cert .entry))) rom (a .0) (CodeAccess.Pair p up down)) ⌝ }
 {
     let e = entries::entry_of(entries::entry_part(cert, a));
     let second = claims::second_half_range(e, p);
     let low = claims::low_in(e, p) as u32 * 256 + second.least as u32 + up as u32;
     let high = claims::high_in(e, p) as u32 * 256 + second.greatest as u32 + up as u32;
-    let inside = (down as u32 <= low) & (high < base::ROM_END as u32 + down as u32);
+    let inside = (down as u32 <= low) & (high < rom as u32 + down as u32);
     claims::claimed_in(e, p) & inside
 }
 
-fn code_in_rom(cert: &[u8], a: RomAddr, c: CodeAccess) -> bool
-    ensures { λ r. ⌜ r ≡ decide (codeInRom (certificateOf (now (cert .entry))) (a .0) c) ⌝ }
+fn code_in_rom(rom: u16, cert: &[u8], a: RomAddr, c: CodeAccess) -> bool
+    ensures { λ r. ⌜ r ≡ decide (codeInRom (certificateOf (now (cert .entry))) rom (a .0) c) ⌝ }
 {
     match c {
         CodeAccess::Nothing => true,
-        CodeAccess::Direct(t) => t.0 < base::ROM_END,
-        CodeAccess::Pair(p, up, down) => pair_in_rom(cert, a, p, up, down),
+        CodeAccess::Direct(t) => t.0 < rom,
+        CodeAccess::Pair(p, up, down) => pair_in_rom(rom, cert, a, p, up, down),
     }
 }
 
-// Rule 24.
-pub fn rule24(cert: &[u8], a: RomAddr, s: Summary) -> bool
-    ensures { λ r. ⌜ r ≡ decide (Rattle.safety.specs.Rules.rule24 (certificateOf (now (cert .entry))) (a .0) s) ⌝ }
+// Rule 24, for a ROM of rom bytes.
+pub fn rule24(rom: u16, cert: &[u8], a: RomAddr, s: Summary) -> bool
+    ensures { λ r. ⌜ r ≡ decide (Rattle.safety.specs.Rules.rule24 (certificateOf (now (cert .entry))) rom (a .0) s) ⌝ }
 {
     let write = s.write;
     let code = s.code;
     let first = s.first;
     let second = s.second;
-    let rest = pointed_write(cert, a, write) & code_in_rom(cert, a, code);
+    let rest = pointed_write(cert, a, write) & code_in_rom(rom, cert, a, code);
     pointed_read(cert, a, first) & (pointed_read(cert, a, second) & rest)
 }

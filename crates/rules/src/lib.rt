@@ -51,30 +51,30 @@ pub fn rule22(cert: &[u8], a: RomAddr, s: Summary) -> bool
 }
 
 // A successor is an entry of the same routine, n.
-fn successor(cert: &[u8], n: u8, t: RomAddr) -> bool
-    ensures { λ r. ⌜ r ≡ decide (Rattle.safety.specs.Rules.successor (certificateOf (now (cert .entry))) n (t .0)) ⌝ }
+fn successor(rom: u16, cert: &[u8], n: u8, t: RomAddr) -> bool
+    ensures { λ r. ⌜ r ≡ decide (Rattle.safety.specs.Rules.successor (certificateOf (now (cert .entry))) rom n (t .0)) ⌝ }
 {
     let to = entries::entry_of(entries::entry_part(cert, t));
-    (t.0 < base::ROM_END) & (to.routine == n)
+    (t.0 < rom) & (to.routine == n)
 }
 
 // CALL in routine n goes to the start of a greater number on the same side.
-fn call_target(cert: &[u8], n: u8, t: RomAddr) -> bool
-    ensures { λ r. ⌜ r ≡ decide (callTarget (certificateOf (now (cert .entry))) n (t .0)) ⌝ }
+fn call_target(rom: u16, cert: &[u8], n: u8, t: RomAddr) -> bool
+    ensures { λ r. ⌜ r ≡ decide (callTarget (certificateOf (now (cert .entry))) rom n (t .0)) ⌝ }
 {
     let to = entries::entry_of(entries::entry_part(cert, t));
     let row = entries::routine_row(cert, to.routine);
     let own = entries::routine_row(cert, n);
     let start = row.start.0 == t.0;
-    (t.0 < base::ROM_END) & ((n < to.routine) & (start & (row.side == own.side)))
+    (t.0 < rom) & ((n < to.routine) & (start & (row.side == own.side)))
 }
 
-fn edges21(cert: &[u8], n: u8, f: Flow, next: RomAddr) -> bool
-    ensures { λ r. ⌜ r ≡ decide (Rattle.rules.specs.Flows.edges21 (certificateOf (now (cert .entry))) n f (next .0)) ⌝ }
+fn edges21(rom: u16, cert: &[u8], n: u8, f: Flow, next: RomAddr) -> bool
+    ensures { λ r. ⌜ r ≡ decide (Rattle.rules.specs.Flows.edges21 (certificateOf (now (cert .entry))) rom n f (next .0)) ⌝ }
 {
     match f {
-        Flow::Step(cc, to) => ((cc == 8) | successor(cert, n, next))
-            & ((cc == 0) | successor(cert, n, to)),
+        Flow::Step(cc, to) => ((cc == 8) | successor(rom, cert, n, next))
+            & ((cc == 0) | successor(rom, cert, n, to)),
         Flow::Call(_) => true,
         Flow::Return => true,
         Flow::InterruptReturn => true,
@@ -82,26 +82,26 @@ fn edges21(cert: &[u8], n: u8, f: Flow, next: RomAddr) -> bool
     }
 }
 
-fn calls21(cert: &[u8], n: u8, f: Flow, next: RomAddr) -> bool
-    ensures { λ r. ⌜ r ≡ decide (Rattle.rules.specs.Flows.calls21 (certificateOf (now (cert .entry))) n f (next .0)) ⌝ }
+fn calls21(rom: u16, cert: &[u8], n: u8, f: Flow, next: RomAddr) -> bool
+    ensures { λ r. ⌜ r ≡ decide (Rattle.rules.specs.Flows.calls21 (certificateOf (now (cert .entry))) rom n f (next .0)) ⌝ }
 {
     match f {
         Flow::Step(_, _) => true,
-        Flow::Call(to) => successor(cert, n, next) & call_target(cert, n, to),
+        Flow::Call(to) => successor(rom, cert, n, next) & call_target(rom, cert, n, to),
         Flow::Return => true,
         Flow::InterruptReturn => true,
         Flow::Forbidden => true,
     }
 }
 
-// Rule 21.
-pub fn rule21(cert: &[u8], a: RomAddr, s: Summary, next: RomAddr) -> bool
-    ensures { λ r. ⌜ r ≡ decide (Rattle.safety.specs.Rules.rule21 (certificateOf (now (cert .entry))) (a .0) s (next .0)) ⌝ }
+// Rule 21, for a ROM of rom bytes.
+pub fn rule21(rom: u16, cert: &[u8], a: RomAddr, s: Summary, next: RomAddr) -> bool
+    ensures { λ r. ⌜ r ≡ decide (Rattle.safety.specs.Rules.rule21 (certificateOf (now (cert .entry))) rom (a .0) s (next .0)) ⌝ }
 {
     let e = entries::entry_of(entries::entry_part(cert, a));
     let n = e.routine;
     let flow = s.flow;
-    !rule22(cert, a, s) | (edges21(cert, n, flow, next) & calls21(cert, n, flow, next))
+    !rule22(cert, a, s) | (edges21(rom, cert, n, flow, next) & calls21(rom, cert, n, flow, next))
 }
 
 // Routine n may write x: the class includes the side, and the routine is not above the writer limit.

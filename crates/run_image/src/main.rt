@@ -1,12 +1,13 @@
 // Runs the program in `image.hex` from reset for 100 steps, and prints where it is then.
-use base::IMAGE_LENGTH;
+use base::IMAGE_4K;
+use base::Profile;
 use base::RECORD_LENGTH;
 use hex_text::Text;
 use libc::STDOUT_FILENO;
 use semantics::Configuration;
 
 // Reads a file of Intel HEX, of at most 65,536 bytes, into an image. A missing file counts as empty, which is refused by 6.
-fn read_image(name: &[u8], image: &mut [u8; IMAGE_LENGTH]) -> Text {
+fn read_image(name: &[u8], image: &mut [u8; IMAGE_4K]) -> Text {
     let mut text = io::large_buffer();
     let fd = os::open_read(name);
     let n = io::read_full(fd, &mut text);
@@ -20,12 +21,15 @@ fn print(name: &[u8], value: u64) {
     io::write_all(STDOUT_FILENO, b"\n");
 }
 
-fn run(image: &[u8; IMAGE_LENGTH]) {
+fn run(image: &[u8; IMAGE_4K]) {
     // A record for each step. Record 50 requests the interrupt of timer 0.
     let mut schedule = [0u8; 100 * RECORD_LENGTH];
     schedule[50 * RECORD_LENGTH] = 0x01;
-    // An interrupt entry costs no cycles.
-    let configuration = Configuration { entry_cost: 0 };
+    // The 4K part; an interrupt entry costs no cycles.
+    let configuration = Configuration {
+        profile: Profile::Rom4K,
+        entry_cost: 0,
+    };
     let ran = machine::run(configuration, image, machine::reset(), &schedule);
     let state = ran.state;
     let pc = state.pc;
@@ -40,7 +44,7 @@ fn run(image: &[u8; IMAGE_LENGTH]) {
 
 fn main() {
     // FFH stays where the file has no record.
-    let mut image = [0xFFu8; IMAGE_LENGTH];
+    let mut image = [0xFFu8; IMAGE_4K];
     match read_image(b"image.hex", &mut image) {
         Text::Read => run(&image),
         Text::Refused(number) => print(b"image.hex refused by ", number as u64),

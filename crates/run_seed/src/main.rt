@@ -1,8 +1,10 @@
-// Runs the program in `image.hex` from reset over the records that a seed gives, `run_seed SEED RECORDS`, and prints what the run leaves and which
-// code it reached: whoever has the files, the seed and the number of records gets the same text. The cycles of an interrupt entry and the starts of
-// instructions are those of `cert.hex`; without that file an entry takes none.
-use base::IMAGE_LENGTH;
+// Runs the program in `image.hex` from reset over the records that a seed gives, `run_seed SEED RECORDS [PART]`, and prints what the run leaves and which
+// code it reached: whoever has the files, the seed and the number of records gets the same text. The part is 4K or 2K, 4K if it is not named. The cycles
+// of an interrupt entry and the starts of instructions are those of `cert.hex`; without that file an entry takes none.
+use base::IMAGE_2K;
+use base::IMAGE_4K;
 use base::LONG_CERTIFICATE_LENGTH;
+use base::Profile;
 use base::RECORD_LENGTH;
 use base::RomAddr;
 use coverage::Map;
@@ -16,8 +18,6 @@ use semantics::Ran;
 use semantics::State;
 use uncovered::Lowest;
 use xorshift::Filled;
-
-type Image = [u8; IMAGE_LENGTH];
 
 type Certificate = [u8; LONG_CERTIFICATE_LENGTH];
 
@@ -81,7 +81,7 @@ fn behind(p: Progress, ran: Ran, seed: u32) -> Progress {
 // Goes on over the records that fill a buffer, and marks in the map where completed instructions began.
 fn run_records(
     configuration: Configuration,
-    image: &Image,
+    image: &[u8],
     p: Progress,
     records: &mut [u8],
     map: &mut Map,
@@ -105,7 +105,7 @@ fn run_records(
 // Goes on over the next n records, at most PART, unless the run has ended.
 fn run_part(
     configuration: Configuration,
-    image: &Image,
+    image: &[u8],
     p: Progress,
     n: u64,
     map: &mut Map,
@@ -124,7 +124,7 @@ fn run_part(
 // From reset, part by part: n records and then m are the n + m that the seed gives.
 fn run_parts(
     configuration: Configuration,
-    image: &Image,
+    image: &[u8],
     seed: u32,
     count: u64,
     map: &mut Map,
@@ -229,7 +229,7 @@ fn tell(p: Progress, map: &Map) {
 }
 
 // Reads a file of Intel HEX, of at most 65,536 bytes, into an image. A missing file counts as empty, which is refused by 6.
-fn read_image(name: &[u8], image: &mut Image) -> Text {
+fn read_image(name: &[u8], image: &mut [u8]) -> Text {
     let mut text = io::large_buffer();
     let fd = os::open_read(name);
     let n = io::read_full(fd, &mut text);
@@ -238,23 +238,22 @@ fn read_image(name: &[u8], image: &mut Image) -> Text {
 }
 
 // Runs, and tells; without a certificate an entry takes no cycles, and nothing is known of starts.
-fn run_alone(image: &Image, seed: u32, count: u64) {
+fn run_alone(profile: Profile, image: &[u8], seed: u32, count: u64) {
     let mut map: Map = [0; WORDS];
-    let p = run_parts(
-        Configuration { entry_cost: 0 },
-        image,
-        seed,
-        count,
-        &mut map,
-    );
+    let configuration = Configuration {
+        profile: profile,
+        entry_cost: 0,
+    };
+    let p = run_parts(configuration, image, seed, count, &mut map);
     tell(p, &map);
     print_registers(p.state);
 }
 
 // The same with a certificate.
-fn run_certified(image: &Image, cert: &Certificate, seed: u32, count: u64) {
+fn run_certified(profile: Profile, image: &[u8], cert: &Certificate, seed: u32, count: u64) {
     let mut map: Map = [0; WORDS];
     let configuration = Configuration {
+        profile: profile,
         entry_cost: entries::entry_cost(cert),
     };
     let p = run_parts(configuration, image, seed, count, &mut map);
@@ -264,40 +263,76 @@ fn run_certified(image: &Image, cert: &Certificate, seed: u32, count: u64) {
 }
 
 // With the certificate in an open file; one that is refused has no cycles of an entry, so nothing is run.
-fn run_with(fd: i32, image: &Image, seed: u32, count: u64) {
+fn run_with(fd: i32, profile: Profile, image: &[u8], seed: u32, count: u64) {
     let mut cert: Certificate = [0; LONG_CERTIFICATE_LENGTH];
     match read_pieces(fd, &mut cert) {
-        Text::Read => run_certified(image, &cert, seed, count),
+        Text::Read => run_certified(profile, image, &cert, seed, count),
         Text::Refused(number) => print_refused(number),
     }
 }
 
-fn run_image(image: &Image, seed: u32, count: u64) {
+fn run_image(profile: Profile, image: &[u8], seed: u32, count: u64) {
     let fd = os::open_read(b"cert.hex");
     if fd < 0 {
-        return run_alone(image, seed, count);
+        return run_alone(profile, image, seed, count);
     }
-    run_with(fd, image, seed, count);
+    run_with(fd, profile, image, seed, count);
     libc::close(fd);
 }
 
-fn run(seed: u32, count: u64) {
-    let mut image: Image = [0xFF; IMAGE_LENGTH];
-    match read_image(b"image.hex", &mut image) {
-        Text::Read => run_image(&image, seed, count),
+// Reads the image into a buffer of the part's length, and runs it.
+fn run_in(profile: Profile, image: &mut [u8], seed: u32, count: u64) {
+    match read_image(b"image.hex", image) {
+        Text::Read => run_image(profile, image, seed, count),
         Text::Refused(number) => print_row(b"image.hex refused by ", number as u64),
     }
+}
+
+fn run(profile: Profile, seed: u32, count: u64) {
+    match profile {
+        Profile::Rom4K => run_in(profile, &mut [0xFF; IMAGE_4K], seed, count),
+        Profile::Rom2K => run_in(profile, &mut [0xFF; IMAGE_2K], seed, count),
+    }
+}
+
+// The part that an argument names.
+enum Part {
+    Named(Profile),
+    Unknown,
+}
+
+// The third argument's, 4K if there is none.
+fn named_part() -> Part {
+    let mut text = [0u8; 16];
+    let n = os::arg(3, &mut text);
+    if n == 0 {
+        return Part::Named(Profile::Rom4K);
+    }
+    if (n != 2) | (text[1] != b'K') {
+        return Part::Unknown;
+    }
+    match text[0] {
+        b'4' => Part::Named(Profile::Rom4K),
+        b'2' => Part::Named(Profile::Rom2K),
+        _ => Part::Unknown,
+    }
+}
+
+fn usage() {
+    io::write_all(
+        STDERR_FILENO,
+        b"run_seed SEED RECORDS [4K | 2K], in a folder with image.hex and, for the cycles of an entry and the starts, cert.hex. Seed and records are decimal, at most 4294967295.\n",
+    );
 }
 
 fn main() {
     let seed = argument(1);
     let count = argument(2);
     if (seed == NONE) | (count == NONE) {
-        io::write_all(
-            STDERR_FILENO,
-            b"run_seed SEED RECORDS, in a folder with image.hex and, for the cycles of an entry and the starts, cert.hex. Both are decimal, at most 4294967295.\n",
-        );
-        return;
+        return usage();
     }
-    run((seed % NONE) as u32, count);
+    match named_part() {
+        Part::Named(profile) => run(profile, (seed % NONE) as u32, count),
+        Part::Unknown => usage(),
+    }
 }

@@ -1,14 +1,15 @@
 // Compares `machine::run_covered` and `machine::run` with the cases of the file `runs.bin`, and prints what differs. A case is a configuration; edits of an
-// image of FFH; a state; records; and what a run over them leaves from an empty map. From the marks that it leaves, and from all marks, it must add none.
+// image of FFH, as long as its part has it; a state; records; and what a run over them leaves from an empty map. From the marks that it leaves, and from all marks, it must add none.
 // Maps of other lengths come first.
-use base::IMAGE_LENGTH;
+use base::IMAGE_4K;
+use base::Profile;
 use base::RECORD_LENGTH;
 use coverage::Map;
 use coverage::WORDS;
 use machine_states::CONFIGURATION_LENGTH;
 use machine_states::STATE_LENGTH;
 use machine_states::configuration_of;
-use machine_states::is_supported_configuration;
+use machine_states::image_for;
 use machine_states::is_supported_state;
 use machine_states::same_state;
 use machine_states::state_of;
@@ -45,7 +46,7 @@ const EXPECTED_LENGTH: usize = MARKED + 2;
 
 type ConfigurationBytes = [u8; CONFIGURATION_LENGTH];
 
-type Image = [u8; IMAGE_LENGTH];
+type Image = [u8; IMAGE_4K];
 
 type Given = [u8; GIVEN_LENGTH];
 
@@ -79,7 +80,7 @@ fn agrees(a: Agreement) -> bool {
 // A run that begins with one map and is expected to leave another.
 fn covered(
     configuration: Configuration,
-    image: &Image,
+    image: &[u8],
     state: State,
     records: &[u8],
     start: Map,
@@ -101,7 +102,7 @@ struct Runs {
 
 fn runs_of(
     configuration: Configuration,
-    image: &Image,
+    image: &[u8],
     given: &Given,
     records: &[u8],
     expected: &Expected,
@@ -166,13 +167,11 @@ fn tell(whole: bool, supported: bool, runs: Runs) {
     print(b"\n");
 }
 
-// Whether the machine has the configuration and the states of a case.
-fn is_supported(configuration: &ConfigurationBytes, given: &Given, expected: &Expected) -> bool {
+// Whether the machine has the states of a case.
+fn is_supported(given: &Given, expected: &Expected) -> bool {
     let start = &given[..];
     let end = &expected[..];
-    is_supported_configuration(configuration)
-        & is_supported_state(&start[START..RECORDS])
-        & is_supported_state(&end[STATE..MARKED])
+    is_supported_state(&start[START..RECORDS]) & is_supported_state(&end[STATE..MARKED])
 }
 
 // Reads the next records of a file, so many; whether the file has them all, and the slice has room for them.
@@ -193,7 +192,7 @@ fn first_records(schedule: &Schedule, count: u16) -> &[u8] {
 
 // Reads the rest of a case, and compares; one that is cut off differs.
 fn compare(fd: i32, configuration: &ConfigurationBytes, counts: Counts) -> Case {
-    let mut image: Image = [255; IMAGE_LENGTH];
+    let mut image: Image = [255; IMAGE_4K];
     let mut given: Given = [0; GIVEN_LENGTH];
     let mut schedule: Schedule = [0; SCHEDULE_LENGTH];
     let mut expected: Expected = [0; EXPECTED_LENGTH];
@@ -205,11 +204,12 @@ fn compare(fd: i32, configuration: &ConfigurationBytes, counts: Counts) -> Case 
     let ended = io::read_full(fd, &mut expected) == EXPECTED_LENGTH;
     let marked = map_cases::read_marks(fd, word_at(&expected, MARKED), &mut marks);
     let whole = edited & started & scheduled & ended & marked.whole & marked.distinct;
-    let supported = is_supported(configuration, &given, &expected);
+    let supported = is_supported(&given, &expected);
     let records = first_records(&schedule, count);
+    let configured = configuration_of(configuration);
     let runs = runs_of(
-        configuration_of(configuration),
-        &image,
+        configured,
+        image_for(configured, &image),
         &given,
         records,
         &expected,
@@ -243,10 +243,13 @@ fn run_cases() {
 
 // Prints the number, the steps and the word of 0100H that one NOP leaves with a map of so many words, at most one too many.
 fn try_words(words: usize) {
-    let image: Image = [255; IMAGE_LENGTH];
+    let image: Image = [255; IMAGE_4K];
     let mut map = [0u64; WORDS + 1];
     let state = machine::reset();
-    let configuration = Configuration { entry_cost: 0 };
+    let configuration = Configuration {
+        profile: Profile::Rom4K,
+        entry_cost: 0,
+    };
     if words <= WORDS + 1 {
         let ran = machine::run_covered(
             configuration,

@@ -12,7 +12,6 @@ use Rattle.base.specs.declared.RomAddr.{RomAddr}
 use Rattle.base.specs.Addresses.{romAddr}
 use Rattle.base.specs.Choice.{pick}
 use Rattle.base.specs.Formula.{Formula, Holds, decide, sound, of-true, same?}
-use Rattle.base.specs.Lengths.{romLength}
 use Rattle.certificate.specs.declared.Verdict.{Verdict}
 use Rattle.certificate.specs.declared.Verdict.the-variants.{Accepted, Refused}
 use Rattle.certificate.specs.declared.Summary.{Summary}
@@ -51,39 +50,39 @@ none-broken (q ∷ qs) m p h =
     (z .0, none-broken qs (q .number) (p .1) (z .1))
 
 -- the numbers of the rules on an instruction ascend, whatever the formulas
-pub ascending-with : (r24 : Formula) (C : Certificate) (a : ℕ) (S : Summary) (next cost : ℕ) → Ascends 20 (rulesWith r24 C a S next cost)
+pub ascending-with : (r24 : Formula) (rom : ℕ) (C : Certificate) (a : ℕ) (S : Summary) (next cost : ℕ) → Ascends 20 (rulesWith r24 rom C a S next cost)
 unfolding rulesWith
-ascending-with r24 C a S next cost = (omega arith, (omega arith, (omega arith, (omega arith, (omega arith, (omega arith, (omega arith, tt)))))))
+ascending-with r24 rom C a S next cost = (omega arith, (omega arith, (omega arith, (omega arith, (omega arith, (omega arith, (omega arith, tt)))))))
 
-module _ (rules : Rules) (C : Certificate) (image : List ℕ) where
+module _ (rules : Rules) (rom : ℕ) (C : Certificate) (image : List ℕ) where
   -- where the number at an address with an entry is 0, every rule holds
-  pub number-every : (a : ℕ) → Ascends 20 (rules C image a) → numberBy rules C image a ≡ 0 → C .routine a ≢ 0 → Every (rules C image a)
+  pub number-every : (a : ℕ) → Ascends 20 (rules rom C image a) → numberBy rules rom C image a ≡ 0 → C .routine a ≢ 0 → Every (rules rom C image a)
   unfolding numberBy
   number-every a up z r = on (eqb (C .routine a) 0) refl z
     where
-      on : (b : Bool) → eqb (C .routine a) 0 ≡ b → _≡_ {A = ℕ} (elim b [ true ↦ 0 | false ↦ firstBroken (rules C image a) ]) 0
-          → Every (rules C image a)
+      on : (b : Bool) → eqb (C .routine a) 0 ≡ b → _≡_ {A = ℕ} (elim b [ true ↦ 0 | false ↦ firstBroken (rules rom C image a) ]) 0
+          → Every (rules rom C image a)
       on true e z = absurd (r (eqb-true (C .routine a) 0 e))
-      on false e z = none-broken (rules C image a) 20 up z
+      on false e z = none-broken (rules rom C image a) 20 up z
 
   -- the first of n addresses from a on whose number is not 0: it is b, with number m
   pub record First (n a m b : ℕ) : Type 0 where
     pub from : a ≤ b
     pub upto : b < a + n
-    pub number : numberBy rules C image b ≡ m
+    pub number : numberBy rules rom C image b ≡ m
     pub some : m ≢ 0
-    pub lower : (k : ℕ) → a ≤ k → k < b → numberBy rules C image k ≡ 0
+    pub lower : (k : ℕ) → a ≤ k → k < b → numberBy rules rom C image k ≡ 0
 
   -- what a scan of n addresses from a on says
   abbrev pub Scanned : ℕ → ℕ → Verdict → Type 0
-  Scanned n a Accepted = (k : ℕ) → a ≤ k → k < a + n → numberBy rules C image k ≡ 0
+  Scanned n a Accepted = (k : ℕ) → a ≤ k → k < a + n → numberBy rules rom C image k ≡ 0
   Scanned n a (Refused m b) = First n a m (b .0)
 
   -- one more address in front, with number 0
-  with-front : (a k : ℕ) → numberBy rules C image a ≡ 0 → (k ≢ a → numberBy rules C image k ≡ 0) → numberBy rules C image k ≡ 0
-  with-front a k z h = ⊎-elim (λ (e : k ≡ a). subst (λ (j : ℕ). numberBy rules C image j ≡ 0) (sym e) z) h (same? k a)
+  with-front : (a k : ℕ) → numberBy rules rom C image a ≡ 0 → (k ≢ a → numberBy rules rom C image k ≡ 0) → numberBy rules rom C image k ≡ 0
+  with-front a k z h = ⊎-elim (λ (e : k ≡ a). subst (λ (j : ℕ). numberBy rules rom C image j ≡ 0) (sym e) z) h (same? k a)
 
-  in-front : (n a : ℕ) (v : Verdict) → numberBy rules C image a ≡ 0 → Scanned n (a + 1) v → Scanned (suc n) a v
+  in-front : (n a : ℕ) (v : Verdict) → numberBy rules rom C image a ≡ 0 → Scanned n (a + 1) v → Scanned (suc n) a v
   in-front n a Accepted z h = λ k l u. with-front a k z (λ ne. h k (omega arith) (omega arith))
   in-front n a (Refused m b) z h =
       let l : a + 1 ≤ b .0 = h .from in
@@ -96,20 +95,20 @@ module _ (rules : Rules) (C : Certificate) (image : List ℕ) where
         lower = λ k l u. with-front a k z (λ ne. h .lower k (omega arith) u);
       }
 
-  pub scanned : (n a : ℕ) → Scanned n a (scanBy rules C image n a)
+  pub scanned : (n a : ℕ) → Scanned n a (scanBy rules rom C image n a)
   unfolding scanBy
   scanned zero a = λ k l u. absurd (omega arith)
-  scanned (suc n) a = on (scanned n (a + 1)) (eqb (numberBy rules C image a) 0) refl
+  scanned (suc n) a = on (scanned n (a + 1)) (eqb (numberBy rules rom C image a) 0) refl
     where
-      on : Scanned n (a + 1) (scanBy rules C image n (a + 1)) → (b : Bool) → eqb (numberBy rules C image a) 0 ≡ b
-          → Scanned (suc n) a (elim b [ true ↦ scanBy rules C image n (a + 1) | false ↦ Refused (numberBy rules C image a) (romAddr a) ])
-      on rest true e = in-front n a (scanBy rules C image n (a + 1)) (eqb-true (numberBy rules C image a) 0 e) rest
+      on : Scanned n (a + 1) (scanBy rules rom C image n (a + 1)) → (b : Bool) → eqb (numberBy rules rom C image a) 0 ≡ b
+          → Scanned (suc n) a (elim b [ true ↦ scanBy rules rom C image n (a + 1) | false ↦ Refused (numberBy rules rom C image a) (romAddr a) ])
+      on rest true e = in-front n a (scanBy rules rom C image n (a + 1)) (eqb-true (numberBy rules rom C image a) 0 e) rest
       on rest false e =
           record {
             from = omega arith;
             upto = omega arith;
             number = refl;
-            some = eqb-false (numberBy rules C image a) 0 e;
+            some = eqb-false (numberBy rules rom C image a) 0 e;
             lower = λ k l u. absurd (omega arith);
           }
 
@@ -120,43 +119,43 @@ verdict-first true f n w e r h = (sound f (of-true (decide f) e), h)
 verdict-first false f n w e r h = absurd (never-refused n (romAddr 0) (sym r ∙ h))
 
 -- an accepted pair has the right lengths
-pub accepted-lengths : (rules : Rules) (image cert : List ℕ) → verdictBy rules image cert ≡ Accepted
-    → Holds (lengthsRight image cert) × (verdictOnBy rules (certificateOf cert) image ≡ Accepted)
+pub accepted-lengths : (rules : Rules) (rom : ℕ) (image cert : List ℕ) → verdictBy rules rom image cert ≡ Accepted
+    → Holds (lengthsRight rom image cert) × (verdictOnBy rules rom (certificateOf cert) image ≡ Accepted)
 unfolding verdictBy
-accepted-lengths rules image cert h =
-    verdict-first (decide (lengthsRight image cert)) (lengthsRight image cert) 7
-    (λ b. pick b (verdictOnBy rules (certificateOf cert) image) (Refused 7 (romAddr 0))) refl refl h
+accepted-lengths rules rom image cert h =
+    verdict-first (decide (lengthsRight rom image cert)) (lengthsRight rom image cert) 7
+    (λ b. pick b (verdictOnBy rules rom (certificateOf cert) image) (Refused 7 (romAddr 0))) refl refl h
 
 -- and breaks no rule
-pub accepted-rules : (rules : Rules) (C : Certificate) (image : List ℕ) → ((a : ℕ) → Ascends 20 (rules C image a)) → verdictOnBy rules C image ≡ Accepted
-    → Holds (rule20 C image) × ((a : ℕ) → a < romLength → C .routine a ≢ 0 → Every (rules C image a))
+pub accepted-rules : (rules : Rules) (rom : ℕ) (C : Certificate) (image : List ℕ) → ((a : ℕ) → Ascends 20 (rules rom C image a)) → verdictOnBy rules rom C image ≡ Accepted
+    → Holds (rule20 C rom image) × ((a : ℕ) → a < rom → C .routine a ≢ 0 → Every (rules rom C image a))
 unfolding verdictOnBy
-accepted-rules rules C image up h =
+accepted-rules rules rom C image up h =
     let z =
-    verdict-first (decide (rule20 C image)) (rule20 C image) 20
-    (λ b. elim b [ true ↦ scanBy rules C image romLength 0 | false ↦ Refused 20 (romAddr 0) ]) refl refl h in
-    let s : Scanned rules C image romLength 0 Accepted =
-    subst (λ (v : Verdict). Scanned rules C image romLength 0 v) (z .1) (scanned rules C image romLength 0) in
-    (z .0, λ a l r. number-every rules C image a (up a) (s a (omega arith) (omega arith)) r)
+    verdict-first (decide (rule20 C rom image)) (rule20 C rom image) 20
+    (λ b. elim b [ true ↦ scanBy rules rom C image rom 0 | false ↦ Refused 20 (romAddr 0) ]) refl refl h in
+    let s : Scanned rules rom C image rom 0 Accepted =
+    subst (λ (v : Verdict). Scanned rules rom C image rom 0 v) (z .1) (scanned rules rom C image rom 0) in
+    (z .0, λ a l r. number-every rules rom C image a (up a) (s a (omega arith) (omega arith)) r)
 
 -- The checker's own rules --
 
 -- rules 21 to 27 at an address
-pub record RulesHold (C : Certificate) (image : List ℕ) (a : ℕ) : Type 0 where
-  pub r21 : Holds (rule21 C a (summaryAt C image a) (nextAt image a))
+pub record RulesHold (rom : ℕ) (C : Certificate) (image : List ℕ) (a : ℕ) : Type 0 where
+  pub r21 : Holds (rule21 C rom a (summaryAt C image a) (nextAt image a))
   pub r22 : Holds (rule22 C a (summaryAt C image a))
   pub r23 : Holds (rule23 C a (summaryAt C image a))
-  pub r24 : Holds (rule24 C a (summaryAt C image a))
+  pub r24 : Holds (rule24 C rom a (summaryAt C image a))
   pub r25 : Holds (rule25 C a (summaryAt C image a) (nextAt image a))
   pub r26 : Holds (rule26 C a (summaryAt C image a) (nextAt image a))
   pub r27 : Holds (rule27 C a (summaryAt C image a) (costAt image a) (nextAt image a))
 
-pub ascending : (C : Certificate) (image : List ℕ) (a : ℕ) → Ascends 20 (rulesAt C image a)
-ascending C image a = ascending-with _ _ _ _ _ _
+pub ascending : (rom : ℕ) (C : Certificate) (image : List ℕ) (a : ℕ) → Ascends 20 (rulesAt rom C image a)
+ascending rom C image a = ascending-with _ _ _ _ _ _ _
 
-named : (C : Certificate) (image : List ℕ) (a : ℕ) → Every (rulesAt C image a) → RulesHold C image a
+named : (rom : ℕ) (C : Certificate) (image : List ℕ) (a : ℕ) → Every (rulesAt rom C image a) → RulesHold rom C image a
 unfolding rulesWith
-named C image a e =
+named rom C image a e =
     record {
       r21 = e .0;
       r22 = e .1 .0;
@@ -168,11 +167,11 @@ named C image a e =
     }
 
 -- an accepted certificate breaks no rule
-pub record Accepts (C : Certificate) (image : List ℕ) : Type 0 where
-  pub r20 : Holds (rule20 C image)
-  pub rules : (a : ℕ) → a < romLength → C .routine a ≢ 0 → RulesHold C image a
+pub record Accepts (rom : ℕ) (C : Certificate) (image : List ℕ) : Type 0 where
+  pub r20 : Holds (rule20 C rom image)
+  pub rules : (a : ℕ) → a < rom → C .routine a ≢ 0 → RulesHold rom C image a
 
-pub accepts : (C : Certificate) (image : List ℕ) → verdictOn C image ≡ Accepted → Accepts C image
-accepts C image h =
-    let z = accepted-rules rulesAt C image (ascending C image) h in
-    record { r20 = z .0; rules = λ a l r. named C image a (z .1 a l r) }
+pub accepts : (rom : ℕ) (C : Certificate) (image : List ℕ) → verdictOn rom C image ≡ Accepted → Accepts rom C image
+accepts rom C image h =
+    let z = accepted-rules rulesAt rom C image (ascending rom C image) h in
+    record { r20 = z .0; rules = λ a l r. named rom C image a (z .1 a l r) }

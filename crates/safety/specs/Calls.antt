@@ -11,7 +11,7 @@ use Rattle.base.specs.declared.RomAddr.{RomAddr}
 use Rattle.base.specs.Addresses.{flagsCell, spCell, symCell}
 use Rattle.base.specs.Choice.{pick}
 use Rattle.base.specs.Formula.{Holds, eq, _&_, same?, le?, of-true, eqb-yes}
-use Rattle.base.specs.Lengths.{romLength}
+use Rattle.base.specs.Lengths.{largestRom}
 use Rattle.isa.specs.declared.FlagSet.{FlagSet}
 use Rattle.chip.specs.Registers.{storeOf}
 use Rattle.chip.specs.Laws.{mapped-ram, load-ram, store-other, store-ram}
@@ -74,7 +74,7 @@ pub record AddressPushed (r r′ : List ℕ) (a : ℕ) : Type 0 where
   pub back : at r′ (at r′ spCell) * 256 + at r′ (at r′ spCell + 1) ≡ a
   pub other : (x : ℕ) → x ≢ spCell → x + 1 ≢ at r spCell → x + 2 ≢ at r spCell → at r′ x ≡ at r x
 
-pub push-address : (r : List ℕ) (a : RomAddr) → Registers r → a .0 < romLength → 2 ≤ at r spCell → at r spCell ≤ 0xC0
+pub push-address : (r : List ℕ) (a : RomAddr) → Registers r → a .0 < largestRom → 2 ≤ at r spCell → at r spCell ≤ 0xC0
     → (pushAddress r a .ok ≡ true) × AddressPushed r (pushAddress r a .regs) (a .0)
 unfolding pushAddress
 push-address r a g ha hl hh =
@@ -143,7 +143,7 @@ survives-now C a k r r″ regs cl x l h hx same m =
     (le? k (C .limit x))
 
 -- the bound behind a CALL of the routine at t
-bound-after-call : (C : Certificate) → CertificateFacts C → (a t next : ℕ) (r r″ : List ℕ) → next < romLength → EntryFacts C a → EntryFacts C next
+bound-after-call : (C : Certificate) → CertificateFacts C → (a t next : ℕ) (r r″ : List ℕ) → next < largestRom → EntryFacts C a → EntryFacts C next
     → Claims C next r″ → (C .firstCell a < ramEnd → C .limit (C .firstCell a) < C .routine t → at r″ (C .firstCell a) ≡ at r (C .firstCell a))
     → C .bound (C .routine t) + boundNow C next r″ ≤ boundAfterCall C a next t (firstNow C a r)
 unfolding boundAfterCall sameFirst
@@ -190,15 +190,18 @@ module _ (C : Certificate) (image : List ℕ) where
 module _ (C : Certificate) (image : List ℕ) (global : Global C image) (more : CertificateFacts C) where
   -- what the rules say of a CALL at a of t, with the flag effect g
   record CallRules (g : FlagEffect) (a t next c : ℕ) : Type 0 where
-    pub target : Holds (successor C (C .routine a) next) × Holds (callTarget C (C .routine a) t)
+    pub target : Holds (successor C largestRom (C .routine a) next) × Holds (callTarget C largestRom (C .routine a) t)
     pub depth : Holds (callDepth C (C .depth a) (C .need (C .routine a)) next t)
     pub claims : Holds (call26 C a g next t)
     pub cost : Holds (paid C a (plainEdge next) c (boundAfterCall C a next t))
 
-  call-rules : (a : ℕ) (S : Summary) (next c : ℕ) (to : RomAddr) → S .flow ≡ Call to → RulesOf C a S next c → CallRules (S .flags) a (to .0) next c
-  unfolding rule21 rule25 rule26 rule27
-  call-rules a S next c to e rules = record {
-    target = subst (λ (k : Flow). Holds (calls k (λ t. successor C (C .routine a) next & callTarget C (C .routine a) t))) e (rules .r21 (rules .r22) .1);
+  call-rules : {rom : ℕ} → rom ≤ largestRom → (a : ℕ) (S : Summary) (next c : ℕ) (to : RomAddr) → S .flow ≡ Call to → RulesOf C rom a S next c
+      → CallRules (S .flags) a (to .0) next c
+  unfolding rule21 rule25 rule26 rule27 successor callTarget
+  call-rules {rom} fits a S next c to e rules = record {
+    target =
+        let z = subst (λ (k : Flow). Holds (calls k (λ t. successor C rom (C .routine a) next & callTarget C rom (C .routine a) t))) e (rules .r21 (rules .r22) .1) in
+        ((omega (arith, z .0 .0), z .0 .1), (omega (arith, z .1 .0), z .1 .1));
     depth = subst (λ (k : Flow). Holds (calls k (callDepth C (C .depth a) (C .need (C .routine a)) next))) e (rules .r25 .1 .1 .1 .0);
     claims = subst (λ (k : Flow). Holds (calls k (call26 C a (S .flags) next))) e (rules .r26 .1);
     cost = subst (λ (k : Flow). Holds (calls k (λ t. paid C a (plainEdge next) c (boundAfterCall C a next t)))) e (rules .r27 .1 .0);
@@ -248,7 +251,7 @@ module _ (C : Certificate) (image : List ℕ) (global : Global C image) (more : 
       let hm = v .home in
       let u = v .used in
       let hn : C .routine next ≡ C .routine a = m .target .0 .1 in
-      let nN : next < romLength = m .target .0 .0 in
+      let nN : next < largestRom = m .target .0 .0 in
       let en : EntryFacts C next = global .entry next nN (omega arith) in
       let up : C .routine a < C .routine t = m .target .1 .1 .0 in
       let sd : C .side (C .routine t) ≡ C .side (C .routine a) = m .target .1 .1 .1 .1 in
@@ -263,7 +266,7 @@ module _ (C : Certificate) (image : List ℕ) (global : Global C image) (more : 
       rw e0
       (record {
         back = ca .back;
-        inRom = nN;
+        inEntries = nN;
         home = hn ∙ hm;
         used = omega arith;
         callee = callee-number a t u up sd;
@@ -310,7 +313,7 @@ module _ (C : Certificate) (image : List ℕ) (global : Global C image) (more : 
       let e = entry-of C image global true r a f fs v in
       let hm = v .home in
       let u = v .used in
-      let tN : t < romLength = m .target .1 .0 in
+      let tN : t < largestRom = m .target .1 .0 in
       let up : C .routine a < C .routine t = m .target .1 .1 .0 in
       let st : C .start (C .routine t) ≡ t = m .target .1 .1 .1 .0 in
       let sd : C .side (C .routine t) ≡ C .side (C .routine a) = m .target .1 .1 .1 .1 in
@@ -334,7 +337,7 @@ module _ (C : Certificate) (image : List ℕ) (global : Global C image) (more : 
       let room = chain-room C r (at r spCell + C .depth a) f fs (ld .chain) in
       let ch = chain-step C image global c r r′ a f fs e hm (pushed-keeps C _ _ _ r r′ (omega arith) pu) (ld .chain) in
       record {
-        inRom = tN;
+        inEntries = tN;
         home = refl;
         used = omega arith;
         registers = pu .registers;
@@ -362,13 +365,13 @@ module _ (C : Certificate) (image : List ℕ) (global : Global C image) (more : 
     pub invariant :
         Invariant C ld (executeOf (Action.Call to) ns image r rec next .regs) (to .0) (calledFrame C (to .0) (next .0)) (spends c f ∷ outward c fs (f .opener))
 
-  pub inv-call : (ns : FlagSet) (ld : Bool) (r rec : List ℕ) (a : ℕ) (f : Frame) (fs : List Frame) (S : Summary) (next to : RomAddr) (c : ℕ)
-      → S .flow ≡ Call to → ((r′ : List ℕ) → at r′ flagsCell ≡ at r flagsCell → FlagsAfter (S .flags) r r′) → RulesOf C a S (next .0) c
+  pub inv-call : {rom : ℕ} → rom ≤ largestRom → (ns : FlagSet) (ld : Bool) (r rec : List ℕ) (a : ℕ) (f : Frame) (fs : List Frame) (S : Summary) (next to : RomAddr) (c : ℕ)
+      → S .flow ≡ Call to → ((r′ : List ℕ) → at r′ flagsCell ≡ at r flagsCell → FlagsAfter (S .flags) r r′) → RulesOf C rom a S (next .0) c
       → Invariant C ld r a f fs → CallRight ns ld r rec to next c f fs
   unfolding executeOf callOf successor callDepth
-  inv-call ns false r rec a f fs S next to c flow after rules v = absurd (call-rules a S (next .0) c to flow rules .depth .0 (v .stack .unloaded))
-  inv-call ns true r rec a f fs S next to c flow after rules v =
-      let m = call-rules a S (next .0) c to flow rules in
+  inv-call fits ns false r rec a f fs S next to c flow after rules v = absurd (call-rules fits a S (next .0) c to flow rules .depth .0 (v .stack .unloaded))
+  inv-call fits ns true r rec a f fs S next to c flow after rules v =
+      let m = call-rules fits a S (next .0) c to flow rules in
       let b = before-of C true r a f fs v in
       let dk = v .stack .loaded in
       let lw = b .lowest dk in
@@ -433,7 +436,7 @@ module _ (C : Certificate) (image : List ℕ) (global : Global C image) (more : 
         rest = outward c rest (g .opener);
         shape = rw q refl;
         invariant = record {
-          inRom = l .inRom;
+          inEntries = l .inEntries;
           home = hg;
           used = let u = l .used in omega arith;
           registers = regs;
@@ -471,7 +474,7 @@ module _ (C : Certificate) (image : List ℕ) (global : Global C image) (more : 
       go byInterrupt q l ch = let z = l .service in let h = v .home in absurd (omega arith)
 
   -- what rules 25 and 27 say of a return
-  pub end-rules : (a : ℕ) (S : Summary) (next c : ℕ) (flow : Flow) → S .flow ≡ flow → RulesOf C a S next c
+  pub end-rules : {rom : ℕ} (a : ℕ) (S : Summary) (next c : ℕ) (flow : Flow) → S .flow ≡ flow → RulesOf C rom a S next c
       → Holds (ends flow (eq (C .depth a) 0)) × Holds (ends flow (paid C a (plainEdge 0) c (λ v. 0)))
   unfolding rule25 rule27
   end-rules a S next c flow e rules = (
@@ -479,8 +482,8 @@ module _ (C : Certificate) (image : List ℕ) (global : Global C image) (more : 
     subst (λ (k : Flow). Holds (ends k (paid C a (plainEdge 0) c (λ v. 0)))) e (rules .r27 .1 .1 .0),
   )
 
-  pub inv-return : (ns : FlagSet) (ld : Bool) (r rec : List ℕ) (a : ℕ) (f : Frame) (fs : List Frame) (S : Summary) (next : RomAddr) (c : ℕ) → S .flow ≡ Return
-      → RulesOf C a S (next .0) c → Invariant C ld r a f fs → ReturnRight C image Action.Return ns byCall ld r rec next c f fs
+  pub inv-return : {rom : ℕ} (ns : FlagSet) (ld : Bool) (r rec : List ℕ) (a : ℕ) (f : Frame) (fs : List Frame) (S : Summary) (next : RomAddr) (c : ℕ) → S .flow ≡ Return
+      → RulesOf C rom a S (next .0) c → Invariant C ld r a f fs → ReturnRight C image Action.Return ns byCall ld r rec next c f fs
   unfolding rule22
   inv-return ns ld r rec a f fs S next c flow rules v =
       let z = end-rules a S (next .0) c Return flow rules in

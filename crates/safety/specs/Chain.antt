@@ -46,7 +46,7 @@ module _ (C : Certificate) where
         ch .0,
         record {
           back = l .back;
-          inRom = l .inRom;
+          inEntries = l .inEntries;
           home = l .home;
           used = l .used;
           callee = l .callee;
@@ -67,7 +67,7 @@ module _ (C : Certificate) where
         record {
           back = l .back;
           flags = l .flags;
-          inRom = l .inRom;
+          inEntries = l .inEntries;
           home = l .home;
           used = l .used;
           service = l .service;
@@ -118,7 +118,7 @@ module _ (C : Certificate) (image : List ℕ) (global : Global C image) where
     link-keep byReset b f g hb hf ht l rel = l
     link-keep byCall b f g hb hf ht l rel = record {
       back = rw (k .stack b hb hf (omega arith), k .stack (b + 1) (omega arith) (omega arith) (omega arith)) (l .back);
-      inRom = l .inRom;
+      inEntries = l .inEntries;
       home = l .home;
       used = l .used;
       callee = l .callee;
@@ -132,7 +132,7 @@ module _ (C : Certificate) (image : List ℕ) (global : Global C image) where
     link-keep byInterrupt b f g hb hf ht l rel = record {
       back = rw (k .stack (b + 1) (omega arith) (omega arith) (omega arith), k .stack (b + 2) (omega arith) (omega arith) (omega arith)) (l .back);
       flags = rw (k .stack b hb hf (omega arith)) (l .flags);
-      inRom = l .inRom;
+      inEntries = l .inEntries;
       home = l .home;
       used = l .used;
       service = l .service;

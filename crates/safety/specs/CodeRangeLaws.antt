@@ -14,7 +14,7 @@ use Rattle.base.specs.declared.RegAddr.{RegAddr}
 use Rattle.base.specs.declared.RomAddr.{RomAddr}
 use Rattle.base.specs.Cells.{Bytes}
 use Rattle.base.specs.Formula.{Holds, same?, le?, eqb-no}
-use Rattle.base.specs.Lengths.{romLength}
+use Rattle.base.specs.Lengths.{largestRom}
 use Rattle.certificate.specs.declared.Range.{Range}
 use Rattle.certificate.specs.declared.CodeAccess.{CodeAccess}
 use Rattle.certificate.specs.Layout.{Certificate}
@@ -33,44 +33,45 @@ pub record PairReaches (C : Certificate) (a p up down t : ℕ) : Type 0 where
   pub is : t + down ≡ upper * 256 + lower + up
 
 module _ (C : Certificate) (a : ℕ) where
+  -- a cell without a claim counts as 0 to 255
+  pub unclaimed : (x : ℕ) → x ≢ C .firstCell a → x ≢ C .secondCell a → (low C a x ≡ 0) × (high C a x ≡ 255)
+  unfolding low high
+  unclaimed x n m = rw (eqb-no n, eqb-no m) (refl, refl)
+
   -- the addresses that the instruction at a reaches
   abbrev pub Reaches : CodeAccess → ℕ → Type 0
   Reaches CodeAccess.Nothing t = ⊥
   Reaches (CodeAccess.Direct d) t = t ≡ d .0
   Reaches (CodeAccess.Pair p up down) t = PairReaches C a (p .0) up down t
 
+module _ (C : Certificate) (rom a : ℕ) where
   -- every sum of values of both halves and the offset is an address of ROM, none of them negative
   abbrev pub SetInRom : ℕ → ℕ → ℕ → Type 0
   SetInRom p up down =
       (h l : ℕ) → low C a p ≤ h → h ≤ high C a p → low C a (p + 1) ≤ l → l ≤ high C a (p + 1)
-      → (down ≤ h * 256 + l + up) × (h * 256 + l + up < romLength + down)
+      → (down ≤ h * 256 + l + up) × (h * 256 + l + up < rom + down)
 
   -- where 24 holds, the whole set lies in ROM
-  pub set-in-rom : (p : RegAddr) (up down : ℕ) → Holds (codeInRom C a (CodeAccess.Pair p up down)) → SetInRom (p .0) up down
+  pub set-in-rom : (p : RegAddr) (up down : ℕ) → Holds (codeInRom C rom a (CodeAccess.Pair p up down)) → SetInRom (p .0) up down
   set-in-rom p up down h u v e f g i = (omega arith, omega arith)
 
   -- so every address that is reached does
-  pub reached-in-rom : (c : CodeAccess) → Holds (codeInRom C a c) → (t : ℕ) → Reaches c t → t < romLength
+  pub reached-in-rom : (c : CodeAccess) → Holds (codeInRom C rom a c) → (t : ℕ) → Reaches C a c t → t < rom
   reached-in-rom CodeAccess.Nothing h t r = absurd r
   reached-in-rom (CodeAccess.Direct d) h t r = omega arith
   reached-in-rom (CodeAccess.Pair p up down) h t r = omega arith
 
-  -- a cell without a claim counts as 0 to 255
-  pub unclaimed : (x : ℕ) → x ≢ C .firstCell a → x ≢ C .secondCell a → (low C a x ≡ 0) × (high C a x ≡ 255)
-  unfolding low high
-  unclaimed x n m = rw (eqb-no n, eqb-no m) (refl, refl)
-
   -- 24 asks no more: it holds where the whole set lies in ROM. The high half is then claimed, since 255 × 256 does not lie there
-  pub whole-set-in-rom : (p : RegAddr) (up down : ℕ) → p .0 < ramEnd → down < 256
+  pub whole-set-in-rom : rom ≤ largestRom → (p : RegAddr) (up down : ℕ) → p .0 < ramEnd → down < 256
       → low C a (p .0) ≤ high C a (p .0) → low C a (p .0 + 1) ≤ high C a (p .0 + 1) → SetInRom (p .0) up down
-      → Holds (codeInRom C a (CodeAccess.Pair p up down))
+      → Holds (codeInRom C rom a (CodeAccess.Pair p up down))
   unfolding claimed
-  whole-set-in-rom p up down r d u v f =
+  whole-set-in-rom fits p up down r d u v f =
       let first = f (low C a (p .0)) (low C a (p .0 + 1)) (omega arith) u (omega arith) v in
       let last = f (high C a (p .0)) (high C a (p .0 + 1)) u (omega arith) v (omega arith) in
       let claim : Holds (claimed C a (p .0)) = (
         λ z. omega arith,
-        ⊎-elim inl (λ n. ⊎-elim inr (λ m. absurd (omega (arith, unclaimed (p .0) n m .1))) (same? (p .0) (C .secondCell a)))
+        ⊎-elim inl (λ n. ⊎-elim inr (λ m. absurd (omega (arith, unclaimed C a (p .0) n m .1))) (same? (p .0) (C .secondCell a)))
             (same? (p .0) (C .firstCell a)),
       ) in
       (claim, omega arith)
@@ -144,20 +145,12 @@ module _ (C : Certificate) (image : List ℕ) (a : ℕ) where
   abbrev pub ReachedByte : CodeAccess → ℕ → Type 0
   ReachedByte c v = (s : ℕ) × (Reaches C a c s × (getD image s 0 ≡ v))
 
-  -- the list of which `loadRange` is the range holds every byte that is reached
-  reached-member : length image ≡ romLength → (c : CodeAccess) → Holds (codeInRom C a c) → (t : ℕ) → Reaches C a c t
-      → List·Memᴰ (getD image t 0) (reachedBytes C image a c)
-  reached-member full CodeAccess.Nothing h t r = absurd r
-  reached-member full (CodeAccess.Direct d) h t r = row-member image _ _ _ 0 0 t (omega arith) (omega arith) (omega arith) (omega arith)
-  reached-member full (CodeAccess.Pair p up down) h t r =
-      row-member image _ _ _ (r .upper - low C a (p .0)) (r .lower - low C a (p .0 + 1)) t (omega arith) (omega arith) (omega arith) (omega arith)
-
-  -- and no other where 24 holds: what holds of each byte that is reached holds of every byte of the list
-  each-reached : (P : ℕ → Type 0) (c : CodeAccess) → ((s : ℕ) → (Holds (codeInRom C a c) → Reaches C a c s) → P (getD image s 0))
+  -- the list of which `loadRange` is the range holds, where 24 holds, no byte that is not reached: what holds of each that is holds of all
+  each-reached : (P : ℕ → Type 0) (rom : ℕ) (c : CodeAccess) → ((s : ℕ) → (Holds (codeInRom C rom a c) → Reaches C a c s) → P (getD image s 0))
       → {b : ℕ} → List·Memᴰ b (reachedBytes C image a c) → P b
-  each-reached P CodeAccess.Nothing f m = absurd (List·Memᴰ·not-nil m)
-  each-reached P (CodeAccess.Direct d) f m = row-bytes P _ _ _ _ (λ i j s hi hj e. f s (λ h. omega arith)) m
-  each-reached P (CodeAccess.Pair p up down) f m =
+  each-reached P rom CodeAccess.Nothing f m = absurd (List·Memᴰ·not-nil m)
+  each-reached P rom (CodeAccess.Direct d) f m = row-bytes P _ _ _ _ (λ i j s hi hj e. f s (λ h. omega arith)) m
+  each-reached P rom (CodeAccess.Pair p up down) f m =
       row-bytes P _ _ _ _ (λ i j s hi hj e. f s (λ h. record {
         upper = low C a (p .0) + i;
         lower = low C a (p .0 + 1) + j;
@@ -168,41 +161,50 @@ module _ (C : Certificate) (image : List ℕ) (a : ℕ) where
         is = omega arith;
       })) m
 
-  -- every byte that is reached lies in the range
-  pub loaded-holds : length image ≡ romLength → (c : CodeAccess) → Holds (codeInRom C a c) → (t : ℕ) → Reaches C a c t
-      → (loadRange C image a c .least ≤ getD image t 0) × (getD image t 0 ≤ loadRange C image a c .greatest)
-  unfolding loadRange
-  loaded-holds full c h t r = widened-holds noByte (reached-member full c h t r)
-
-  -- the range is no wider: where an address is reached, both its ends are bytes that are reached
-  module _ (full : length image ≡ romLength) (bytes : Bytes image) (c : CodeAccess) (h : Holds (codeInRom C a c)) (t : ℕ) (r : Reaches C a c t) where
-    loaded-ends : ReachedByte c (loadRange C image a c .least) × ReachedByte c (loadRange C image a c .greatest)
-    unfolding loadRange
-    loaded-ends =
-        let z = loaded-holds full c h t r in
-        let w = widened-ends (λ v. v ≤ getD image t 0 → ReachedByte c v) (λ v. getD image t 0 ≤ v → ReachedByte c v) noByte _
-        (λ l. (t, (r, omega (arith, bytes t)))) (λ l. (t, (r, omega arith)))
-        (λ b m. let v = each-reached (ReachedByte c) c (λ s g. (s, (g h, refl))) m in (λ l. v, λ l. v)) in
-        (w .0 (z .0), w .1 (z .1))
-
-    pub loaded-least : ReachedByte c (loadRange C image a c .least)
-    loaded-least = loaded-ends .0
-
-    pub loaded-greatest : ReachedByte c (loadRange C image a c .greatest)
-    loaded-greatest = loaded-ends .1
-
-  -- its greatest is a byte, also where 24 does not hold
+  -- the greatest of the range is a byte, also where 24 does not hold
   pub loaded-byte : Bytes image → (c : CodeAccess) → loadRange C image a c .greatest ≤ 255
   unfolding loadRange
   loaded-byte bytes c =
       widened-ends (λ b. Unit {0}) (λ b. b ≤ 255) noByte _ tt (omega arith)
-      (λ b m. (tt, each-reached (λ v. v ≤ 255) c (λ s g. omega (arith, bytes s)) m)) .1
+      (λ b m. (tt, each-reached (λ v. v ≤ 255) 0 c (λ s g. omega (arith, bytes s)) m)) .1
+
+module _ (C : Certificate) (rom : ℕ) (image : List ℕ) (a : ℕ) (full : length image ≡ rom) where
+  -- the list holds every byte that is reached
+  reached-member : (c : CodeAccess) → Holds (codeInRom C rom a c) → (t : ℕ) → Reaches C a c t → List·Memᴰ (getD image t 0) (reachedBytes C image a c)
+  reached-member CodeAccess.Nothing h t r = absurd r
+  reached-member (CodeAccess.Direct d) h t r = row-member image _ _ _ 0 0 t (omega arith) (omega arith) (omega arith) (omega arith)
+  reached-member (CodeAccess.Pair p up down) h t r =
+      row-member image _ _ _ (r .upper - low C a (p .0)) (r .lower - low C a (p .0 + 1)) t (omega arith) (omega arith) (omega arith) (omega arith)
+
+  -- so every byte that is reached lies in the range
+  pub loaded-holds : (c : CodeAccess) → Holds (codeInRom C rom a c) → (t : ℕ) → Reaches C a c t
+      → (loadRange C image a c .least ≤ getD image t 0) × (getD image t 0 ≤ loadRange C image a c .greatest)
+  unfolding loadRange
+  loaded-holds c h t r = widened-holds noByte (reached-member c h t r)
+
+  -- the range is no wider: where an address is reached, both its ends are bytes that are reached
+  module _ (bytes : Bytes image) (c : CodeAccess) (h : Holds (codeInRom C rom a c)) (t : ℕ) (r : Reaches C a c t) where
+    loaded-ends : ReachedByte C image a c (loadRange C image a c .least) × ReachedByte C image a c (loadRange C image a c .greatest)
+    unfolding loadRange
+    loaded-ends =
+        let z = loaded-holds c h t r in
+        let Byte = ReachedByte C image a c in
+        let w = widened-ends (λ v. v ≤ getD image t 0 → Byte v) (λ v. getD image t 0 ≤ v → Byte v) noByte _
+        (λ l. (t, (r, omega (arith, bytes t)))) (λ l. (t, (r, omega arith)))
+        (λ b m. let v = each-reached C image a Byte rom c (λ s g. (s, (g h, refl))) m in (λ l. v, λ l. v)) in
+        (w .0 (z .0), w .1 (z .1))
+
+    pub loaded-least : ReachedByte C image a c (loadRange C image a c .least)
+    loaded-least = loaded-ends .0
+
+    pub loaded-greatest : ReachedByte C image a c (loadRange C image a c .greatest)
+    loaded-greatest = loaded-ends .1
 
   -- a direct address reaches its one byte
-  pub loaded-direct : length image ≡ romLength → Bytes image → (t : RomAddr) → t .0 < romLength
+  pub loaded-direct : Bytes image → (t : RomAddr) → t .0 < rom
       → loadRange C image a (CodeAccess.Direct t) ≡ range (getD image (t .0) 0) (getD image (t .0) 0)
-  loaded-direct full bytes t h =
+  loaded-direct bytes t h =
       let c = CodeAccess.Direct t in
-      let at : (v : ℕ) → ReachedByte c v → v ≡ getD image (t .0) 0 = λ v b. sym (b .1 .1) ∙ ap (λ (s : ℕ). getD image s 0) (b .1 .0) in
-      ap (λ (l : ℕ). range l (loadRange C image a c .greatest)) (at _ (loaded-least full bytes c h (t .0) refl))
-      ∙ ap (range (getD image (t .0) 0)) (at _ (loaded-greatest full bytes c h (t .0) refl))
+      let at : (v : ℕ) → ReachedByte C image a c v → v ≡ getD image (t .0) 0 = λ v b. sym (b .1 .1) ∙ ap (λ (s : ℕ). getD image s 0) (b .1 .0) in
+      ap (λ (l : ℕ). range l (loadRange C image a c .greatest)) (at _ (loaded-least bytes c h (t .0) refl))
+      ∙ ap (range (getD image (t .0) 0)) (at _ (loaded-greatest bytes c h (t .0) refl))

@@ -13,7 +13,7 @@ use Rattle.base.specs.Addresses.{flagsCell}
 use Rattle.base.specs.Choice.{pick, choose}
 use Rattle.base.specs.ChoiceLaws.{pick-has, Each}
 use Rattle.base.specs.Formula.{Formula, Holds, decide, sound, decide-true, decide-false, always, le, lt, eq, neg, _&_, _‖_, same?, le?, of-true, eqb-yes, eqb-no, ltb-yes, ltb-no}
-use Rattle.base.specs.Lengths.{romLength}
+use Rattle.base.specs.Lengths.{largestRom}
 use Rattle.alu.specs.Flags.{condition}
 use Rattle.alu.specs.Operations.{compareFlags}
 use Rattle.alu.specs.Laws.{compare-lt, compare-ge, compare-eq, compare-ne, compare-le, compare-gt}
@@ -37,29 +37,29 @@ use Rattle.safety.specs.Facts.{EntryFacts, is-writable, rule20-facts}
 pub record CertificateFacts (C : Certificate) : Type 0 where
   pub number : (a : ℕ) → C .compareNumber a < 256
   -- of an absent first claim the other bytes are 0
-  pub absent : (a : ℕ) → a < romLength → C .firstCell a ≡ noCell → C .firstLow a ≡ 0
+  pub absent : (a : ℕ) → a < largestRom → C .firstCell a ≡ noCell → C .firstLow a ≡ 0
   -- a routine that is called starts at depth 0
-  pub start : (a : ℕ) → a < romLength → 2 ≤ C .routine a → C .start (C .routine a) ≡ a → C .depth a ≡ 0
+  pub start : (a : ℕ) → a < largestRom → 2 ≤ C .routine a → C .start (C .routine a) ≡ a → C .depth a ≡ 0
 
-absent-first : (C : Certificate) (image : List ℕ) → Accepts C image → (a : ℕ) → a < romLength → C .firstCell a ≡ noCell → C .firstLow a ≡ 0
+absent-first : (rom : ℕ) (C : Certificate) (image : List ℕ) → Accepts rom C image → (a : ℕ) → a < largestRom → C .firstCell a ≡ noCell → C .firstLow a ≡ 0
 unfolding addressRule emptyEntry entryRule claimRule
-absent-first C image ok a h e =
-    let p = rule20-facts C image (ok .r20) .addresses a h in
+absent-first rom C image ok a h e =
+    let p = rule20-facts rom C image (ok .r20) .addresses a h in
     ⊎-elim (λ (z : C .routine a ≡ 0). let q = p .0 z in absurd (let y = q .1 .1 .1 .1 .0 in omega arith))
-    (λ (n : C .routine a ≢ 0). let q = p .1 n in q .1 .1 .1 .1 .1 .0 .1 e .0) (same? (C .routine a) 0)
+    (λ (n : C .routine a ≢ 0). let q = p .1 n .1 in q .1 .1 .1 .1 .1 .0 .1 e .0) (same? (C .routine a) 0)
 
-start-depth : (C : Certificate) (image : List ℕ) → Accepts C image → (a : ℕ) → a < romLength → 2 ≤ C .routine a → C .start (C .routine a) ≡ a
+start-depth : (rom : ℕ) (C : Certificate) (image : List ℕ) → Accepts rom C image → (a : ℕ) → a < largestRom → 2 ≤ C .routine a → C .start (C .routine a) ≡ a
     → C .depth a ≡ 0
 unfolding addressRule entryRule startRule
-start-depth C image ok a h u e =
-    let f = rule20-facts C image (ok .r20) in
-    let p = f .addresses a h .1 (λ z. omega arith) in
+start-depth rom C image ok a h u e =
+    let f = rule20-facts rom C image (ok .r20) in
+    let p = f .addresses a h .1 (λ z. omega arith) .1 in
     let q = f .starts (C .routine a) (p .0) (p .1 .0) .1 .1 .0 in
     let n : C .routine a ≡ 1 → ⊥ = λ z. omega arith in
     ap (C .depth) (sym e) ∙ q ∙ rw (eqb-no n) refl
 
-pub certificate-facts : (C : Certificate) (image : List ℕ) → Accepts C image → ((a : ℕ) → C .compareNumber a < 256) → CertificateFacts C
-certificate-facts C image ok number = record { number = number; absent = absent-first C image ok; start = start-depth C image ok }
+pub certificate-facts : (rom : ℕ) (C : Certificate) (image : List ℕ) → Accepts rom C image → ((a : ℕ) → C .compareNumber a < 256) → CertificateFacts C
+certificate-facts rom C image ok number = record { number = number; absent = absent-first rom C image ok; start = start-depth rom C image ok }
 
 -- Ranges and bounds --
 
@@ -136,7 +136,7 @@ first-range C t r e absent cl =
     (λ (h : C .firstCell t ≡ noCell). let z = first-out C t r h in let n = absent h in (omega arith, omega arith))
     (e .firstCell)
 
-pub now-worst : (C : Certificate) → CertificateFacts C → (t : ℕ) (r : List ℕ) → t < romLength → EntryFacts C t → Claims C t r → boundNow C t r ≤ worst C t
+pub now-worst : (C : Certificate) → CertificateFacts C → (t : ℕ) (r : List ℕ) → t < largestRom → EntryFacts C t → Claims C t r → boundNow C t r ≤ worst C t
 now-worst C more t r ht e cl =
     let c = first-range C t r e (more .absent t ht) cl in
     bound-worst C t (firstNow C t r) e (c .0) (c .1)
@@ -342,7 +342,7 @@ module _ (C : Certificate) (more : CertificateFacts C) (a : ℕ) (e : EntryFacts
     unfolding compareFollows
     compare-follows f et k q m h = flags-follow f et h k (m (λ z. omega arith)) q
 
-    bound-along : (ch : Change) → t < romLength → EntryFacts C t → Claims C t r′ → C .firstCell t ≡ C .firstCell a → C .firstCell a < ramEnd
+    bound-along : (ch : Change) → t < largestRom → EntryFacts C t → Claims C t r′ → C .firstCell t ≡ C .firstCell a → C .firstCell a < ramEnd
         → Effect ch r r′ (C .firstCell a) → boundNow C t r′ ≤ boundAlong C ch t (firstNow C a r)
     bound-along unchanged ht et ct q h k =
         let z : firstNow C t r′ ≡ firstNow C a r = first-in C t r′ (omega arith) ∙ ap (at r′) q ∙ k ∙ sym (first-in C a r h) in
@@ -371,7 +371,7 @@ module _ (C : Certificate) (more : CertificateFacts C) (a : ℕ) (e : EntryFacts
     bound-along (changed (CopyOf y)) ht et ct q h k = now-worst C more t r′ ht et ct
     bound-along (changed Unknown) ht et ct q h k = now-worst C more t r′ ht et ct
 
-    pub bound-after : t < romLength → EntryFacts C t → Claims C t r′ → boundNow C t r′ ≤ boundAfter C a w t (firstNow C a r)
+    pub bound-after : t < largestRom → EntryFacts C t → Claims C t r′ → boundNow C t r′ ≤ boundAfter C a w t (firstNow C a r)
     unfolding boundAfter sameFirst
     bound-after ht et ct = go (eqb (C .firstCell t) (C .firstCell a)) refl (eqb (C .firstCell a) noCell) refl
       where
@@ -389,7 +389,7 @@ module _ (C : Certificate) (more : CertificateFacts C) (a : ℕ) (e : EntryFacts
             (λ (h : C .firstCell a ≡ noCell). absurd (mathlib.Core.Path.subst T (sym (eqb-yes h) ∙ e2) tt)) (e .firstCell)
 
     -- the bound at the successor, with the cost of the step
-    pub cost-follows : (cost : ℕ) → t < romLength → EntryFacts C t → Claims C t r′ → Holds (paid C a (taken n r t) cost (boundAfter C a w t))
+    pub cost-follows : (cost : ℕ) → t < largestRom → EntryFacts C t → Claims C t r′ → Holds (paid C a (taken n r t) cost (boundAfter C a w t))
         → C .routine a ≢ 1 → cost + boundNow C t r′ ≤ boundNow C a r
     cost-follows cost ht et ct m k =
         let h = paid-now cost (boundAfter C a w t) m k in

@@ -6,14 +6,14 @@ use mathlib.Core.Logic.{_≢_, inl, inr}
 use mathlib.Core.Bool.{Bool, true, false, _&&_}
 use mathlib.Core.List.{List, [], _∷_, _++_}
 use native.Mathlib.Omega.{arith}
-use lib.Dec.{ltb}
+use lib.Dec.{ltb, eqb}
 use lib.ListN.{length, getD, take, drop, length-append, length-drop, List·getD-append, List·getD-eq-default}
 use lib.Seq.{take-append-le, drop-append-le, getD-append-seam}
 use borrow.Author.Tests.{ltb-true}
 use Rattle.base.specs.Addresses.{romAddr}
 use Rattle.base.specs.Choice.{pick}
-use Rattle.base.specs.Formula.{Holds, decide-no, eqb-no}
-use Rattle.base.specs.Lengths.{romLength, isImageLength, isCertificateLength, shortCertificateLength, greatestEntryCost}
+use Rattle.base.specs.Formula.{Holds, eqb-no}
+use Rattle.base.specs.Lengths.{largestRom, isCertificateLength, shortCertificateLength, greatestEntryCost}
 use Rattle.semantics.specs.declared.State.{State}
 use Rattle.semantics.specs.Step.{vectorOf}
 use Rattle.certificate.specs.declared.Verdict.the-variants.{Accepted, Refused}
@@ -22,6 +22,7 @@ use Rattle.safety.specs.Rules.{worst, rule20, openingCost}
 use Rattle.safety.specs.Verdicts.{rulesWith, rulesAt, verdictOnBy, verdictBy, verdictOf, Broken}
 use Rattle.safety.specs.Statement.{Open, entered, spent}
 use Rattle.safety.specs.Accepted.{accepts, accepted-lengths}
+use Rattle.safety.specs.Exact.{twenty-when}
 use Rattle.safety.specs.Facts.{rule20-facts, service-start, row-at, global, service-row}
 
 -- "The entry step costs that much" --
@@ -71,7 +72,7 @@ byte-behind cert x h =
     let more = x ∷ [] in
     let last : getD (cert ++ more) 0xE482 0 ≡ x = ap (λ (n : ℕ). getD (cert ++ more) n 0) (sym h) ∙ getD-append-seam cert x [] 0 in
     rw (
-      part-longer cert more 0 14 romLength (λ k l. omega arith),
+      part-longer cert more 0 14 largestRom (λ k l. omega arith),
       part-longer cert more 0xE000 3 256 (λ k l. omega arith),
       part-longer cert more 0xE300 6 64 (λ k l. omega arith),
       List·getD-append cert more 0 0xE480 (omega arith),
@@ -83,25 +84,25 @@ pub same-certificate : (cert : List ℕ) → length cert ≡ shortCertificateLen
 unfolding certificateOf certificateFrom
 same-certificate cert h = byte-behind cert 0 h ∙ sym (ap (withCost cert) (short-means-zero cert h))
 
-module _ (image cert : List ℕ) where
+module _ (rom : ℕ) (image cert : List ℕ) where
   abbrev C : Certificate
   C = certificateOf cert
 
   -- so the byte 0 changes no verdict
-  pub zero-byte-same : length cert ≡ shortCertificateLength → verdictOf image (cert ++ (0 ∷ [])) ≡ verdictOf image cert
+  pub zero-byte-same : length cert ≡ shortCertificateLength → verdictOf rom image (cert ++ (0 ∷ [])) ≡ verdictOf rom image cert
   unfolding verdictBy
   zero-byte-same h = rw (length-append cert (0 ∷ []), h, same-certificate cert h)
 
   -- "and the service's bound covers it, its row's bound being at least this byte plus its start's bound, else 27 at the start" --
 
-  pub service-bound-covers : verdictOf image cert ≡ Accepted → C .entryCost + worst C (vectorOf image) ≤ C .bound 2
-  service-bound-covers h = service-row C image (global C image (accepts C image (accepted-lengths rulesAt image cert h .1)))
+  pub service-bound-covers : rom ≤ largestRom → verdictOf rom image cert ≡ Accepted → C .entryCost + worst C (vectorOf image) ≤ C .bound 2
+  service-bound-covers fits h = service-row C image (global rom C image fits (accepts rom C image (accepted-lengths rulesAt rom image cert h .1)))
 
-  pub bound-too-small : Holds (rule20 C image) → (C .entryCost + worst C (vectorOf image) ≤ C .bound 2 → ⊥) → Broken image cert 27 (vectorOf image)
+  pub bound-too-small : Holds (rule20 C rom image) → (C .entryCost + worst C (vectorOf image) ≤ C .bound 2 → ⊥) → Broken rom image cert 27 (vectorOf image)
   unfolding rulesWith
   bound-too-small p small =
-      let f = rule20-facts C image p in
-      let s = service-start C image f in
+      let f = rule20-facts rom C image p in
+      let s = service-start rom C image f in
       inr (
         s .0,
         λ e. omega (arith, s .1),
@@ -110,15 +111,14 @@ module _ (image cert : List ℕ) where
 
   -- "20 also for a byte above 63; 7 for any other certificate length" --
 
-  pub cost-above-63 : isImageLength (length image) ≡ true → isCertificateLength (length cert) ≡ true → (C .entryCost ≤ greatestEntryCost → ⊥)
-      → verdictOf image cert ≡ Refused 20 (romAddr 0)
-  unfolding verdictBy verdictOnBy
-  cost-above-63 i l h = rw (i, l, sym (decide-no (rule20 C image) (λ p. h (rule20-facts C image p .entryCost))), verdictOnBy)
+  pub cost-above-63 : length image ≡ rom → isCertificateLength (length cert) ≡ true → (C .entryCost ≤ greatestEntryCost → ⊥)
+      → verdictOf rom image cert ≡ Refused 20 (romAddr 0)
+  cost-above-63 full whole h = twenty-when rom image cert full whole (λ p. h (rule20-facts rom C image p .entryCost))
 
-  pub other-length : isCertificateLength (length cert) ≡ false → verdictOf image cert ≡ Refused 7 (romAddr 0)
+  pub other-length : isCertificateLength (length cert) ≡ false → verdictOf rom image cert ≡ Refused 7 (romAddr 0)
   unfolding verdictBy
-  other-length h = on (isImageLength (length image)) (isCertificateLength (length cert)) h
+  other-length h = on (eqb (length image) rom) (isCertificateLength (length cert)) h
     where
-      on : (b c : Bool) → c ≡ false → pick (b && c) (verdictOnBy rulesAt C image) (Refused 7 (romAddr 0)) ≡ Refused 7 (romAddr 0)
+      on : (b c : Bool) → c ≡ false → pick (b && c) (verdictOnBy rulesAt rom C image) (Refused 7 (romAddr 0)) ≡ Refused 7 (romAddr 0)
       on true c e = rw e
       on false c e = refl

@@ -8,7 +8,7 @@ use Prim.Native.Nat.{ℕ, _+_, _≤_, _<_}
 use native.Mathlib.Omega.{arith}
 use Rattle.base.specs.Addresses.{flagsCell, spCell, symCell}
 use Rattle.base.specs.Formula.{Holds, same?, case-bool}
-use Rattle.base.specs.Lengths.{romLength, greatestEntryCost}
+use Rattle.base.specs.Lengths.{largestRom, greatestEntryCost}
 use Rattle.chip.specs.Registers.{mappedOf}
 use Rattle.certificate.specs.declared.Summary.{Summary}
 use Rattle.certificate.specs.Layout.{Certificate}
@@ -44,7 +44,7 @@ pub record Global (C : Certificate) (image : List ℕ) : Type 0 where
   pub mainFirst : C .firstCell 0x100 ≡ noCell
   pub mainSecond : C .secondCell 0x100 ≡ noCell
   pub mainCompare : C .compareCell 0x100 ≡ noCell
-  pub vectorInRom : vectorOf image < romLength
+  pub vectorInEntries : vectorOf image < largestRom
   pub serviceRoutine : C .routine (vectorOf image) ≡ 2
   pub serviceDepth : C .depth (vectorOf image) ≡ 0
   pub serviceFirst : C .firstCell (vectorOf image) ≡ noCell
@@ -52,9 +52,9 @@ pub record Global (C : Certificate) (image : List ℕ) : Type 0 where
   pub serviceCompare : C .compareCell (vectorOf image) ≡ noCell
   pub serviceStart : C .start 2 ≡ vectorOf image
   pub room : C .need 1 + 3 + C .need 2 + C .floor ≤ C .top
-  pub entry : (a : ℕ) → a < romLength → 1 ≤ C .routine a → EntryFacts C a
+  pub entry : (a : ℕ) → a < largestRom → 1 ≤ C .routine a → EntryFacts C a
   -- a row's bound covers what opening costs and its start's worst
-  pub rows : (a n : ℕ) → a < romLength → C .routine a ≡ n → 2 ≤ n → C .start n ≡ a → openingCost C n + worst C a ≤ C .bound n
+  pub rows : (a n : ℕ) → a < largestRom → C .routine a ≡ n → 2 ≤ n → C .start n ≡ a → openingCost C n + worst C a ≤ C .bound n
 
 -- a cell that may be claimed if there is one
 claimed-cell : (C : Certificate) (a x : ℕ) → (x ≢ noCell → Holds (claimable C a x))
@@ -94,22 +94,22 @@ is-writable C a x e t =
     record { own = ⊎-elim (λ h. omega arith) (λ h. omega arith) (t .0); who = t .0; limit = t .1 }
 
 -- the parts of rule 20 by name
-pub record Rule20Facts (C : Certificate) (image : List ℕ) : Type 0 where
+pub record Rule20Facts (rom : ℕ) (C : Certificate) (image : List ℕ) : Type 0 where
   pub stackTop : C .top ≤ 0xC0
   pub cells : (x : ℕ) → x < 256 → Holds (cellRule C x)
   pub mainStart : C .start 1 ≡ 0x100
   pub mainSide : C .side 1 ≡ 1
   pub serviceStart : C .start 2 ≡ vectorOf image
   pub serviceSide : C .side 2 ≡ 2
-  pub starts : (n : ℕ) → n < 64 → Holds (startRule C n)
+  pub starts : (n : ℕ) → n < 64 → Holds (startRule C rom n)
   pub mainBare : Holds (bareRule C (C .start 1))
   pub serviceBare : Holds (bareRule C (C .start 2))
-  pub addresses : (a : ℕ) → a < romLength → Holds (addressRule C a)
+  pub addresses : (a : ℕ) → a < largestRom → Holds (addressRule C rom a)
   pub entryCost : C .entryCost ≤ greatestEntryCost
 
-pub rule20-facts : (C : Certificate) (image : List ℕ) → Holds (rule20 C image) → Rule20Facts C image
+pub rule20-facts : (rom : ℕ) (C : Certificate) (image : List ℕ) → Holds (rule20 C rom image) → Rule20Facts rom C image
 unfolding rule20
-rule20-facts C image p =
+rule20-facts rom C image p =
     let main = p .1 .1 .1 .1 in
     let service = main .1 .1 .1 in
     let rest = service .1 .1 in
@@ -127,15 +127,23 @@ rule20-facts C image p =
       entryCost = rest .1 .1 .1 .1;
     }
 
-module _ (C : Certificate) (image : List ℕ) (parts : Rule20Facts C image) where
+module _ (rom : ℕ) (C : Certificate) (image : List ℕ) (parts : Rule20Facts rom C image) where
   sides : (n : ℕ) → n < 64 → Holds (used C n) → (1 ≤ C .side n) × (C .side n ≤ 2)
   unfolding startRule
   sides n h u = let z = parts .starts n h u in ⊎-elim (λ e. (omega arith, omega arith)) (λ e. (omega arith, omega arith)) (z .1 .1 .1)
 
-  entry-at : (a : ℕ) → a < romLength → 1 ≤ C .routine a → EntryFacts C a
-  unfolding addressRule entryRule
+  -- an entry lies in ROM, and is right
+  entry-rule : (a : ℕ) → a < largestRom → 1 ≤ C .routine a → (a < rom) × Holds (entryRule C a)
+  unfolding addressRule
+  entry-rule a h u = parts .addresses a h .1 (λ e. omega arith)
+
+  pub entry-in-rom : (a : ℕ) → a < largestRom → 1 ≤ C .routine a → a < rom
+  entry-in-rom a h u = entry-rule a h u .0
+
+  entry-at : (a : ℕ) → a < largestRom → 1 ≤ C .routine a → EntryFacts C a
+  unfolding entryRule
   entry-at a h u =
-      let p = parts .addresses a h .1 (λ e. omega arith) in
+      let p = entry-rule a h u .1 in
       entry-facts C a (sides (C .routine a) (p .0) (p .1 .0)) p
 
   used-main : Holds (used C 1)
@@ -147,7 +155,7 @@ module _ (C : Certificate) (image : List ℕ) (parts : Rule20Facts C image) wher
   used-service z = let s = parts .serviceSide in omega arith
 
   -- the service starts in ROM, and its entry there names it
-  pub service-start : (vectorOf image < romLength) × (C .routine (vectorOf image) ≡ 2)
+  pub service-start : (vectorOf image < rom) × (C .routine (vectorOf image) ≡ 2)
   unfolding startRule
   service-start =
       let z = parts .starts 2 (omega arith) used-service in
@@ -174,14 +182,14 @@ pub row-at : (C : Certificate) (a n : ℕ) (S : Summary) (cost next : ℕ) → H
 unfolding rule27 rowRule
 row-at C a n S cost next h r u e = ⊎-elim (λ q. absurd (omega arith)) (λ q. q e) (rw r at (h .1 .1 .1))
 
-module _ (C : Certificate) (image : List ℕ) (ok : Accepts C image) where
-  parts : Rule20Facts C image
-  parts = rule20-facts C image (ok .r20)
+module _ (rom : ℕ) (C : Certificate) (image : List ℕ) (fits : rom ≤ largestRom) (ok : Accepts rom C image) where
+  parts : Rule20Facts rom C image
+  parts = rule20-facts rom C image (ok .r20)
 
   room-rule : C .need 1 + 3 + C .need 2 + C .floor ≤ C .top
   unfolding rule25 startRule
   room-rule =
-      let z = parts .starts 1 (omega arith) (used-main C image parts) in
+      let z = parts .starts 1 (omega arith) (used-main rom C image parts) in
       let e = parts .mainStart in
       let r : C .routine 0x100 ≡ 1 = ap (C .routine) (sym e) ∙ z .1 .0 in
       ok .rules 0x100 (omega arith) (λ q. omega arith) .r25 .1 .1 .1 .1 .1 refl
@@ -190,20 +198,20 @@ module _ (C : Certificate) (image : List ℕ) (ok : Accepts C image) where
   unfolding startRule bareRule
   global =
       let p = parts in
-      let m = p .starts 1 (omega arith) (used-main C image p) in
-      let v = p .starts 2 (omega arith) (used-service C image p) in
-      let s = service-start C image p in
+      let m = p .starts 1 (omega arith) (used-main rom C image p) in
+      let v = p .starts 2 (omega arith) (used-service rom C image p) in
+      let s = service-start rom C image p in
       let em = p .mainStart in
       let ev = p .serviceStart in
       let bm = p .mainBare in
       let bv = p .serviceBare in
       record {
         stackTop = p .stackTop;
-        stackClass = in-stack C image p;
-        flagsClass = special C image p flagsCell (omega arith) (inl refl);
-        spClass = special C image p spCell (omega arith) (inr (inl refl));
-        symClass = special C image p symCell (omega arith) (inr (inr refl));
-        tableMapped = table-mapped C image p;
+        stackClass = in-stack rom C image p;
+        flagsClass = special rom C image p flagsCell (omega arith) (inl refl);
+        spClass = special rom C image p spCell (omega arith) (inr (inl refl));
+        symClass = special rom C image p symCell (omega arith) (inr (inr refl));
+        tableMapped = table-mapped rom C image p;
         mainSide = p .mainSide;
         serviceSide = p .serviceSide;
         mainRoutine = ap (C .routine) (sym em) ∙ m .1 .0;
@@ -211,7 +219,7 @@ module _ (C : Certificate) (image : List ℕ) (ok : Accepts C image) where
         mainFirst = ap (C .firstCell) (sym em) ∙ bm .0;
         mainSecond = ap (C .secondCell) (sym em) ∙ bm .1 .0;
         mainCompare = ap (C .compareCell) (sym em) ∙ bm .1 .1;
-        vectorInRom = s .0;
+        vectorInEntries = omega arith;
         serviceRoutine = s .1;
         serviceDepth = ap (C .depth) (sym ev) ∙ v .1 .1 .0;
         serviceFirst = ap (C .firstCell) (sym ev) ∙ bv .0;
@@ -219,10 +227,10 @@ module _ (C : Certificate) (image : List ℕ) (ok : Accepts C image) where
         serviceCompare = ap (C .compareCell) (sym ev) ∙ bv .1 .1;
         serviceStart = ev;
         room = room-rule;
-        entry = entry-at C image p;
-        rows = λ a n h r u e. row-at C a n _ _ _ (ok .rules a h (λ q. omega arith) .r27) r u e;
+        entry = entry-at rom C image p;
+        rows = λ a n h r u e. row-at C a n _ _ _ (ok .rules a (entry-in-rom rom C image p a h (omega arith)) (λ q. omega arith) .r27) r u e;
       }
 
 -- the service's bound covers the cycles of an entry and its start's worst
 pub service-row : (C : Certificate) (image : List ℕ) → Global C image → C .entryCost + worst C (vectorOf image) ≤ C .bound 2
-service-row C image g = g .rows (vectorOf image) 2 (g .vectorInRom) (g .serviceRoutine) (omega arith) (g .serviceStart)
+service-row C image g = g .rows (vectorOf image) 2 (g .vectorInEntries) (g .serviceRoutine) (omega arith) (g .serviceStart)

@@ -11,7 +11,7 @@ use Rattle.base.specs.Cells.{Bytes}
 use Rattle.base.specs.Choice.{pick}
 use Rattle.base.specs.ChoiceLaws.{pick-has}
 use Rattle.base.specs.Formula.{Formula, Holds, always, le, lt, _&_}
-use Rattle.base.specs.Lengths.{romLength}
+use Rattle.base.specs.Lengths.{largestRom}
 use Rattle.base.specs.Outcome.{Outcome}
 use Rattle.base.specs.Outcome.Outcome.{value, refused}
 use Rattle.isa.specs.declared.FlagSet.{FlagSet}
@@ -43,23 +43,23 @@ use Rattle.safety.specs.ByteLaws.{part-bytes}
 use Rattle.safety.specs.CodeRangeLaws.{loaded-byte}
 
 -- 24 took the claim of the high half, the low half 0 to 255, the offset added unwrapped
-abbrev pub formerInRom : Certificate → ℕ → CodeAccess → Formula
-formerInRom C a CodeAccess.Nothing = always
-formerInRom C a (CodeAccess.Direct t) = lt (t .0) romLength
-formerInRom C a (CodeAccess.Pair p up down) =
-    claimed C a (p .0) & le down (low C a (p .0) * 256 + up) & lt (high C a (p .0) * 256 + 255 + up) (romLength + down)
+abbrev pub formerInRom : Certificate → ℕ → ℕ → CodeAccess → Formula
+formerInRom C rom a CodeAccess.Nothing = always
+formerInRom C rom a (CodeAccess.Direct t) = lt (t .0) rom
+formerInRom C rom a (CodeAccess.Pair p up down) =
+    claimed C a (p .0) & le down (low C a (p .0) * 256 + up) & lt (high C a (p .0) * 256 + 255 + up) (rom + down)
 
 -- what LDC, LDCI and LDCD load counted as 0 to 255
 abbrev pub formerSummary : List ℕ → ℕ → Summary
 formerSummary image a = summaryFrom (λ c. range 0 255) (decodeAt image a) a
 
 abbrev pub formerRules : Rules
-formerRules C image a =
+formerRules rom C image a =
     let S = formerSummary image a in
-    rulesWith (rule24By C (formerInRom C) a S) C a S (nextAt image a) (costAt image a)
+    rulesWith (rule24By C (formerInRom C rom) a S) rom C a S (nextAt image a) (costAt image a)
 
 -- over today's other rules and lengths: certificates of 58,499 bytes came later, with request 03
-abbrev pub verdictFormerly : List ℕ → List ℕ → Verdict
+abbrev pub verdictFormerly : ℕ → List ℕ → List ℕ → Verdict
 verdictFormerly = verdictBy formerRules
 
 -- a byte of 0 to 255 gives a claim what a byte of which nothing is known gives it, as LDC did
@@ -146,10 +146,10 @@ module _ (C : Certificate) (a : ℕ) where
     summary-tighter (refused n) = alike _
 
   -- 24 asks no more than it did
-  in-rom-still : ((x : ℕ) → high C a x ≤ 255) → (c : CodeAccess) → Holds (formerInRom C a c) → Holds (codeInRom C a c)
-  in-rom-still byte CodeAccess.Nothing h = h
-  in-rom-still byte (CodeAccess.Direct t) h = h
-  in-rom-still byte (CodeAccess.Pair p up down) h = (h .0, (omega arith, omega (arith, byte (p .0 + 1))))
+  in-rom-still : (rom : ℕ) → ((x : ℕ) → high C a x ≤ 255) → (c : CodeAccess) → Holds (formerInRom C rom a c) → Holds (codeInRom C rom a c)
+  in-rom-still rom byte CodeAccess.Nothing h = h
+  in-rom-still rom byte (CodeAccess.Direct t) h = h
+  in-rom-still rom byte (CodeAccess.Pair p up down) h = (h .0, (omega arith, omega (arith, byte (p .0 + 1))))
 
   follows-still : (e : Edge) {c c′ : Change} → Narrower c c′ → (x l h : ℕ) → Holds (follows C a e c x l h) → Holds (follows C a e c′ x l h)
   follows-still e same x l h p = p
@@ -169,17 +169,17 @@ module _ (C : Certificate) (a : ℕ) where
   paid-still (narrower g) e cost t h = h
 
   -- the rules that held hold
-  rules-still : ((x : ℕ) → high C a x ≤ 255) → (S S′ : Summary) → Tighter S S′ → (next cost : ℕ)
-      → Every (rulesWith (rule24By C (formerInRom C) a S) C a S next cost) → Every (rulesOn C a S′ next cost)
+  rules-still : (rom : ℕ) → ((x : ℕ) → high C a x ≤ 255) → (S S′ : Summary) → Tighter S S′ → (next cost : ℕ)
+      → Every (rulesWith (rule24By C (formerInRom C rom) a S) rom C a S next cost) → Every (rulesOn rom C a S′ next cost)
   unfolding rulesWith rule21 rule22 rule23 rule24 rule25 rule26 rule27 edge26 edge27 claimFollows compareFollows paid boundAfter
-  rules-still byte S _ (tighter w direct pointed change) next cost (r21, (r22, (r23, (r24, (r25, (r26, (r27, t))))))) = (
+  rules-still rom byte S _ (tighter w direct pointed change) next cost (r21, (r22, (r23, (r24, (r25, (r26, (r27, t))))))) = (
     r21,
     (
       r22,
       (
         (r23 .0, (r23 .1 .0, (direct (r23 .1 .1 .0), r23 .1 .1 .1))),
         (
-          (r24 .0, (r24 .1 .0, (pointed (r24 .1 .1 .0), in-rom-still byte (S .code) (r24 .1 .1 .1)))),
+          (r24 .0, (r24 .1 .0, (pointed (r24 .1 .1 .0), in-rom-still rom byte (S .code) (r24 .1 .1 .1)))),
           (r25, ((edges-map (S .flow) next _ _ edge26-still (r26 .0), r26 .1), ((edges-map (S .flow) next _ _ edge27-still (r27 .0), r27 .1), t))),
         ),
       ),
@@ -199,17 +199,18 @@ module _ (C : Certificate) (a : ℕ) where
 high-byte : (cert : List ℕ) → Bytes cert → (a x : ℕ) → high (certificateOf cert) a x ≤ 255
 unfolding certificateOf certificateFrom high
 high-byte cert h a x =
-    let entry = part-bytes cert h 0 14 romLength a in
+    let entry = part-bytes cert h 0 14 largestRom a in
     pick-has (λ n. n ≤ 255) (eqb x _) _ _ (λ _. omega (arith, entry 8))
     (λ _. pick-has (λ n. n ≤ 255) (eqb x _) _ _ (λ _. omega (arith, entry 11)) (λ _. omega arith))
 
 -- an old certificate that was accepted stays accepted
-pub still-accepted : (image cert : List ℕ) → Bytes image → Bytes cert → verdictFormerly image cert ≡ Accepted → verdictOf image cert ≡ Accepted
+pub still-accepted : (rom : ℕ) (image cert : List ℕ) → Bytes image → Bytes cert → verdictFormerly rom image cert ≡ Accepted
+    → verdictOf rom image cert ≡ Accepted
 unfolding summaryAt
-still-accepted image cert imageBytes certBytes h =
+still-accepted rom image cert imageBytes certBytes h =
     let C = certificateOf cert in
-    let p = accepted-lengths formerRules image cert h in
-    let r = accepted-rules formerRules C image (λ a. ascending-with _ _ _ _ _ _) (p .1) in
-    accepted-when image cert (unbroken image cert (p .0) (r .0) (λ a l s.
-    rules-still C a (high-byte cert certBytes a) (formerSummary image a) (summaryAt C image a)
+    let p = accepted-lengths formerRules rom image cert h in
+    let r = accepted-rules formerRules rom C image (λ a. ascending-with _ _ _ _ _ _ _) (p .1) in
+    accepted-when rom image cert (unbroken rom image cert (p .0) (r .0) (λ a l s.
+    rules-still C a rom (high-byte cert certBytes a) (formerSummary image a) (summaryAt C image a)
     (summary-tighter C a (loadRange C image a) (loaded-byte C image a imageBytes) (decodeAt image a)) (nextAt image a) (costAt image a) (r .1 a l s)))

@@ -3,7 +3,7 @@
 use mathlib.Core.Path.{_≡_, refl, sym, subst, _∙_, ap}
 use mathlib.Core.Bool.{Bool, _||_}
 use mathlib.Core.List.{List, _∷_}
-use Prim.Native.Nat.{ℕ, _+_, _%_, _<_}
+use Prim.Native.Nat.{ℕ, _+_, _%_, _≤_, _<_}
 use lib.ListN.{length, getD}
 use Rattle.base.specs.declared.RomAddr.{RomAddr}
 use Rattle.base.specs.Addresses.{romAddr, flagsCell}
@@ -11,7 +11,7 @@ use Rattle.base.specs.Choice.{pick}
 use Rattle.base.specs.Formula.{Holds}
 use Rattle.base.specs.Outcome.{Outcome}
 use Rattle.base.specs.Outcome.Outcome.{value, refused}
-use Rattle.base.specs.Lengths.{romLength}
+use Rattle.base.specs.Lengths.{largestRom}
 use Rattle.isa.specs.declared.FlagSet.{FlagSet}
 use Rattle.isa.specs.Flags.{allFlags}
 use Rattle.isa.specs.declared.Instruction.{Instruction}
@@ -54,12 +54,12 @@ unfolding summaryAt summaryFrom
 summary-decoded C image a d q = ap (λ (o : Outcome (Instruction × ℕ × FlagSet)). summaryFrom (loadRange C image a) o a) q
 
 -- the rules at an address, for the instruction that is decoded there
-pub rules-decoded : (C : Certificate) (image : List ℕ) (a : ℕ) (d : Instruction × ℕ × FlagSet) → decodeAt image a ≡ value d → RulesHold C image a
-    → RulesOf C a (summaryOf (loadRange C image a) (actionOf (d .0) (romAddr ((a + d .1) % 65536))) (d .2)) ((a + d .1) % 65536) (costAt image a)
+pub rules-decoded : (rom : ℕ) (C : Certificate) (image : List ℕ) (a : ℕ) (d : Instruction × ℕ × FlagSet) → decodeAt image a ≡ value d → RulesHold rom C image a
+    → RulesOf C rom a (summaryOf (loadRange C image a) (actionOf (d .0) (romAddr ((a + d .1) % 65536))) (d .2)) ((a + d .1) % 65536) (costAt image a)
 unfolding summaryAt nextAt summaryFrom
-rules-decoded C image a d q h =
-    subst (λ (o : Outcome (Instruction × ℕ × FlagSet)). RulesOf C a (summaryFrom (loadRange C image a) o a) ((a + sizeFrom o) % 65536) (costAt image a)) q
-    (rules-of C image a h)
+rules-decoded rom C image a d q h =
+    subst (λ (o : Outcome (Instruction × ℕ × FlagSet)). RulesOf C rom a (summaryFrom (loadRange C image a) o a) ((a + sizeFrom o) % 65536) (costAt image a)) q
+    (rules-of rom C image a h)
 
 pub table-decoded : (C : Certificate) (image : List ℕ) (a : ℕ) (d : Instruction × ℕ × FlagSet) → decodeAt image a ≡ value d
     → tableOf C a (summaryAt C image a) ≡ tableOf C a (summaryOf (loadRange C image a) (actionOf (d .0) (romAddr ((a + d .1) % 65536))) (d .2))
@@ -72,9 +72,9 @@ unfolding summaryFrom rule22
 decoded-some C load a (value d) h = (d, refl)
 decoded-some C load a (refused n) h = absurd (h .1)
 
-pub decoded-at : (C : Certificate) (image : List ℕ) (a : ℕ) → RulesHold C image a → (d : Instruction × ℕ × FlagSet) × (decodeAt image a ≡ value d)
+pub decoded-at : (rom : ℕ) (C : Certificate) (image : List ℕ) (a : ℕ) → RulesHold rom C image a → (d : Instruction × ℕ × FlagSet) × (decodeAt image a ≡ value d)
 unfolding summaryAt
-decoded-at C image a h = decoded-some C (loadRange C image a) a (decodeAt image a) (h .r22)
+decoded-at rom C image a h = decoded-some C (loadRange C image a) a (decodeAt image a) (h .r22)
 
 module _ (C : Certificate) (image : List ℕ) where
   -- the instruction act at a, with the flags ns that it names, on the registers r, with the address next behind it and cost c; o are the open routines
@@ -89,13 +89,13 @@ module _ (C : Certificate) (image : List ℕ) where
         → Invariant C (loadsTop (C .top) act || ld) (e .regs) (e .next .pc .0)
         (transferred C (transferOf act) next s′ (charge c o) .inner) (transferred C (transferOf act) next s′ (charge c o) .outer)
 
-module _ (C : Certificate) (image : List ℕ) (ok : Accepts C image) (facts : CertificateFacts C) (size : length image ≡ romLength)
-    (bytes : (i : ℕ) → getD image i 0 < 256) where
+module _ (rom : ℕ) (C : Certificate) (image : List ℕ) (fits : rom ≤ largestRom) (ok : Accepts rom C image) (facts : CertificateFacts C)
+    (size : length image ≡ rom) (bytes : (i : ℕ) → getD image i 0 < 256) where
   gl : Global C image
-  gl = global C image ok
+  gl = global rom C image fits ok
 
   module _ (ld : Bool) (a : ℕ) (act : Action) (ns : FlagSet) (r rec : List ℕ) (next : RomAddr) (c : ℕ) (o : Open) (shaped : Shaped ns act) (input : Input rec)
-      (rules : RulesOf C a (summaryOf (loadRange C image a) act ns) (next .0) c) (v : Invariant C ld r a (o .inner) (o .outer)) where
+      (rules : RulesOf C rom a (summaryOf (loadRange C image a) act ns) (next .0) c) (v : Invariant C ld r a (o .inner) (o .outer)) where
     -- the ranges that the claims at a give, and its summary by them
     abbrev load : CodeAccess → Range
     load = loadRange C image a
@@ -103,7 +103,7 @@ module _ (C : Certificate) (image : List ℕ) (ok : Accepts C image) (facts : Ce
     abbrev summary : Summary
     summary = summaryOf load act ns
 
-    step-rules : StepRules C a summary
+    step-rules : StepRules C rom a summary
     unfolding rule25
     step-rules = record { r23 = rules .r23; r24 = rules .r24; stack = rules .r25 .0 }
 
@@ -113,11 +113,11 @@ module _ (C : Certificate) (image : List ℕ) (ok : Accepts C image) (facts : Ce
         let f = o .inner in
         let fs = o .outer in
         let d =
-        refine C image gl size bytes a (entry-of C image gl ld r a f fs v) r rec (before-of C ld r a f fs v) input next ns
+        refine rom C image gl fits size bytes a (entry-of C image gl ld r a f fs v) r rec (before-of C ld r a f fs v) input next ns
         (depth-met C ld r a f fs (v .stack)) act shaped n to flow step-rules in
         let r′ = executeOf act ns image r rec next .regs in
         let w : Invariant C (loadedAfter (summary .stack) ld) r′ (pick (condition n (at r flagsCell)) (to .0) (next .0)) (spends c f) (outward c fs (f .opener))
-        = inv-step C image gl facts ld r r′ a f fs summary (next .0) c n to flow (coherent load act ns) rules v (d .refines) in
+        = inv-step C image gl fits facts ld r r′ a f fs summary (next .0) c n to flow (coherent load act ns) rules v (d .refines) in
         let l = loads-top C a load act ns ld (rules .r23) in
         let t = step-stays load act ns n to flow in
         record {
@@ -137,7 +137,7 @@ module _ (C : Certificate) (image : List ℕ) (ok : Accepts C image) (facts : Ce
         let fs = o .outer in
         let after : (r′ : List ℕ) → at r′ flagsCell ≡ at r flagsCell → FlagsAfter (summary .flags) r r′
         = λ r′ k. subst (λ (x : Action). FlagsAfter (summaryOf load x ns .flags) r r′) (sym (is-call load act ns to flow)) (flags-kept ns r r′ k) in
-        let w = inv-call C image gl facts ns ld r rec a f fs summary next to c flow after rules v in
+        let w = inv-call C image gl facts fits ns ld r rec a f fs summary next to c flow after rules v in
         let e = executeOf (Action.Call to) ns image r rec next in
         subst (λ (x : Action). Right C image ld a x ns r rec next c o (executeOf x ns image r rec next)) (sym (is-call load act ns to flow))
         (record {

@@ -153,7 +153,7 @@ module _ (C : Certificate) (image : List ℕ) (global : Global C image) (more : 
       (record {
         back = en .back;
         flags = rw (en .flags) (v .registers .flags);
-        inRom = v .inRom;
+        inEntries = v .inEntries;
         home = hm;
         used = let u = v .used in omega arith;
         service = refl;
@@ -180,7 +180,7 @@ module _ (C : Certificate) (image : List ℕ) (global : Global C image) (more : 
       let to = vectorOf image in
       let vr = global .serviceRoutine in
       let vd = global .serviceDepth in
-      let ev : EntryFacts C to = global .entry to (global .vectorInRom) (omega arith) in
+      let ev : EntryFacts C to = global .entry to (global .vectorInEntries) (omega arith) in
       let hm = v .home in
       let sf : C .side (f .routine) ≡ 1 = ap (C .side) (sym hm) ∙ s1 in
       let ld = v .stack in
@@ -195,10 +195,10 @@ module _ (C : Certificate) (image : List ℕ) (global : Global C image) (more : 
       = λ x hx.
       in-range C to x (at r′ x) (λ q. let z = global .serviceFirst in absurd (omega arith)) (λ q. let z = global .serviceSecond in absurd (omega arith))
       (pu .registers .bytes x) in
-      let bw = now-worst C more to r′ (global .vectorInRom) ev cv in
+      let bw = now-worst C more to r′ (global .vectorInEntries) ev cv in
       let row = service-row C image global in
       record {
-        inRom = global .vectorInRom;
+        inEntries = global .vectorInEntries;
         home = vr;
         used = omega arith;
         registers = pu .registers;
@@ -241,7 +241,7 @@ module _ (C : Certificate) (image : List ℕ) (global : Global C image) (more : 
       let tp = chain-top C r b f fs (ld .chain) in
       let ro = reserve-main C (C .side (f .routine)) (ap (C .side) (sym hm) ∙ s1) in
       let ht = global .stackTop in
-      let p = push-address r pc (v .registers) (v .inRom) (omega arith) (omega arith) in
+      let p = push-address r pc (v .registers) (v .inEntries) (omega arith) (omega arith) in
       let r1 = pushAddress r pc .regs in
       let p1 : AddressPushed r r1 (pc .0) = p .1 in
       let ssp = p1 .pointer in
@@ -290,7 +290,7 @@ module _ (C : Certificate) (image : List ℕ) (global : Global C image) (more : 
         rest = rest;
         shape = rw q refl;
         invariant = record {
-          inRom = l .inRom;
+          inEntries = l .inEntries;
           home = hg;
           used = let u = l .used in omega arith;
           registers = re .registers;
@@ -325,8 +325,8 @@ module _ (C : Certificate) (image : List ℕ) (global : Global C image) (more : 
       go byCall q l ch = let z = l .callee in let h = v .home in absurd (omega arith)
       go byInterrupt q l ch = return-interrupted r rec a c next f g rest v h2 hd m q l ch
 
-  pub inv-interrupt-return : (ld : Bool) (r rec : List ℕ) (a : ℕ) (f : Frame) (fs : List Frame) (S : Summary) (next : RomAddr) (c : ℕ)
-      → S .flow ≡ InterruptReturn → RulesOf C a S (next .0) c → Invariant C ld r a f fs
+  pub inv-interrupt-return : {rom : ℕ} (ld : Bool) (r rec : List ℕ) (a : ℕ) (f : Frame) (fs : List Frame) (S : Summary) (next : RomAddr) (c : ℕ)
+      → S .flow ≡ InterruptReturn → RulesOf C rom a S (next .0) c → Invariant C ld r a f fs
       → ReturnRight C image Action.InterruptReturn allFlags byInterrupt ld r rec next c f fs
   unfolding rule22
   inv-interrupt-return ld r rec a f fs S next c flow rules v =

@@ -10,7 +10,7 @@ use lib.ListN.{length, getD}
 use Rattle.base.specs.declared.RomAddr.{RomAddr}
 use Rattle.base.specs.Addresses.{flagsCell, spCell}
 use Rattle.base.specs.Choice.{pick}
-use Rattle.base.specs.Lengths.{romLength}
+use Rattle.base.specs.Lengths.{largestRom}
 use Rattle.isa.specs.declared.Alu.the-variants.{Cp}
 use Rattle.isa.specs.declared.FlagSet.{FlagSet}
 use Rattle.isa.specs.Flags.{allFlags}
@@ -136,7 +136,7 @@ module _ (C : Certificate) where
   -- f, opened by a CALL of g; b is the stack address just above f's own bytes
   pub record CallLink (r : List ℕ) (b : ℕ) (f g : Frame) : Type 0 where
     pub back : at r b * 256 + at r (b + 1) ≡ f .returnTo
-    pub inRom : f .returnTo < romLength
+    pub inEntries : f .returnTo < largestRom
     pub home : C .routine (f .returnTo) ≡ g .routine
     pub used : 1 ≤ g .routine
     pub callee : 3 ≤ f .routine
@@ -151,7 +151,7 @@ module _ (C : Certificate) where
   pub record InterruptLink (r : List ℕ) (b : ℕ) (f g : Frame) : Type 0 where
     pub back : at r (b + 1) * 256 + at r (b + 2) ≡ f .returnTo
     pub flags : at r b % 16 ≡ 0
-    pub inRom : f .returnTo < romLength
+    pub inEntries : f .returnTo < largestRom
     pub home : C .routine (f .returnTo) ≡ g .routine
     pub used : 1 ≤ g .routine
     pub service : f .routine ≡ 2
@@ -188,7 +188,7 @@ module _ (C : Certificate) where
 
   -- the invariant: f is the innermost open routine, fs the others outward
   pub record Invariant (loaded : Bool) (r : List ℕ) (pc : ℕ) (f : Frame) (fs : List Frame) : Type 0 where
-    pub inRom : pc < romLength
+    pub inEntries : pc < largestRom
     pub home : C .routine pc ≡ f .routine
     pub used : 1 ≤ C .routine pc
     pub registers : Registers r

@@ -27,6 +27,7 @@ pub mod RefineOperands
 pub mod RefineStack
 pub mod Rules
 pub mod Runs
+pub mod SmallPart
 pub mod SmallerCost
 pub mod Sound
 pub mod Statement

@@ -25,7 +25,7 @@ use Rattle.alu.specs.Laws.{update-bound, update-low}
 use Rattle.semantics.specs.Operands.{withFlags}
 use Rattle.safety.specs.Invariant.{at, Registers}
 
--- a schedule record holds bytes
+-- a schedule record, and the inputs that it gives a step, hold bytes
 abbrev pub Input : List ℕ → Type 0
 Input rec = (i : ℕ) → getD rec i 0 < 256
 

@@ -11,6 +11,7 @@ use Rattle.base.specs.declared.RomAddr.{RomAddr}
 use Rattle.base.specs.Addresses.{flagsCell, spCell}
 use Rattle.base.specs.Choice.{pick}
 use Rattle.base.specs.Formula.{Formula, Holds, eqb-yes}
+use Rattle.base.specs.Lengths.{largestRom}
 use Rattle.chip.specs.Interrupts.{interruptsEnabled, postOf}
 use Rattle.chip.specs.InterruptLaws.{post-length, post-other, post-bytes, post-enabled}
 use Rattle.alu.specs.Flags.{condition}
@@ -38,18 +39,18 @@ use Rattle.safety.specs.Edge.{CertificateFacts, taken, free-range, first
 
 -- Rules 21 to 27 for a summary at an address, the address behind it and its cost --
 
-pub record RulesOf (C : Certificate) (a : ℕ) (S : Summary) (next cost : ℕ) : Type 0 where
-  pub r21 : Holds (rule21 C a S next)
+pub record RulesOf (C : Certificate) (rom a : ℕ) (S : Summary) (next cost : ℕ) : Type 0 where
+  pub r21 : Holds (rule21 C rom a S next)
   pub r22 : Holds (rule22 C a S)
   pub r23 : Holds (rule23 C a S)
-  pub r24 : Holds (rule24 C a S)
+  pub r24 : Holds (rule24 C rom a S)
   pub r25 : Holds (rule25 C a S next)
   pub r26 : Holds (rule26 C a S next)
   pub r27 : Holds (rule27 C a S cost next)
 
-pub rules-of : (C : Certificate) (image : List ℕ) (a : ℕ) → RulesHold C image a
-    → RulesOf C a (summaryAt C image a) (nextAt image a) (costAt image a)
-rules-of C image a h =
+pub rules-of : (rom : ℕ) (C : Certificate) (image : List ℕ) (a : ℕ) → RulesHold rom C image a
+    → RulesOf C rom a (summaryAt C image a) (nextAt image a) (costAt image a)
+rules-of rom C image a h =
     record { r21 = h .r21; r22 = h .r22; r23 = h .r23; r24 = h .r24; r25 = h .r25; r26 = h .r26; r27 = h .r27 }
 
 -- The edge that is taken --
@@ -130,7 +131,7 @@ post-untouched r b g =
 
 module _ (C : Certificate) (image : List ℕ) (global : Global C image) where
   pub entry-of : (ld : Bool) (r : List ℕ) (a : ℕ) (f : Frame) (fs : List Frame) → Invariant C ld r a f fs → EntryFacts C a
-  entry-of ld r a f fs v = global .entry a (v .inRom) (v .used)
+  entry-of ld r a f fs v = global .entry a (v .inEntries) (v .used)
 
   -- the chain of the innermost routine, after a step that keeps what it must
   pub chain-step : (c : ℕ) (r r′ : List ℕ) (a : ℕ) (f : Frame) (fs : List Frame) → EntryFacts C a → C .routine a ≡ f .routine
@@ -161,7 +162,7 @@ module _ (C : Certificate) (image : List ℕ) (global : Global C image) where
       let e = entry-of ld r a f fs v in
       let s : (x : ℕ) → x < ramEnd → C .class x ≡ C .side (C .routine a) → at r′ x ≡ at r x = λ x h c. u .cells x h in
       record {
-        inRom = v .inRom;
+        inEntries = v .inEntries;
         home = v .home;
         used = v .used;
         registers = u .registers;
@@ -242,18 +243,19 @@ module _ (C : Certificate) (image : List ℕ) (global : Global C image) where
       later Pop t = t
       later (Load n) t = refl
 
-  pub inv-step : CertificateFacts C → (ld : Bool) (r r′ : List ℕ) (a : ℕ) (f : Frame) (fs : List Frame) (S : Summary) (next c n : ℕ) (to : RomAddr)
-      → S .flow ≡ Step n to → Coherent S → RulesOf C a S next c → Invariant C ld r a f fs → Refines C a S r r′
+  pub inv-step : {rom : ℕ} → rom ≤ largestRom → CertificateFacts C → (ld : Bool) (r r′ : List ℕ) (a : ℕ) (f : Frame) (fs : List Frame) (S : Summary) (next c n : ℕ) (to : RomAddr)
+      → S .flow ≡ Step n to → Coherent S → RulesOf C rom a S next c → Invariant C ld r a f fs → Refines C a S r r′
       → Invariant C (loadedAfter (S .stack) ld) r′ (pick (condition n (at r flagsCell)) (to .0) next) (spends c f) (outward c fs (f .opener))
   unfolding rule21 rule22 rule23 rule24 rule25 rule26 rule27 successor edge26 edge27
-  inv-step more ld r r′ a f fs S next c n to flow co rules v ref =
+  inv-step {rom} fits more ld r r′ a f fs S next c n to flow co rules v ref =
       let t : ℕ = pick (condition n (at r flagsCell)) (to .0) next in
       let e = entry-of ld r a f fs v in
-      let suc = edge-of (S .flow) n to flow next r (λ e. successor C (C .routine a) (e .to)) (rules .r21 (rules .r22) .0) in
+      let suc = edge-of (S .flow) n to flow next r (λ e. successor C rom (C .routine a) (e .to)) (rules .r21 (rules .r22) .0) in
       let deep = edge-of (S .flow) n to flow next r _ (rules .r25 .1 .1 .0) in
+      let inside : t < largestRom = omega (arith, suc .0) in
       let ht : C .routine t ≡ C .routine a = suc .1 in
       let u = v .used in
-      let et : EntryFacts C t = global .entry t (suc .0) (omega arith) in
+      let et : EntryFacts C t = global .entry t inside (omega arith) in
       let yes = feasible-now C more a e r (v .registers) (v .claims) (v .compare) n t in
       let e26 = edge-of (S .flow) n to flow next r (edge26 C a S) (rules .r26 .0) yes in
       let e27 = edge-of (S .flow) n to flow next r (edge27 C a S c) (rules .r27 .0) yes in
@@ -262,7 +264,7 @@ module _ (C : Certificate) (image : List ℕ) (global : Global C image) where
       = claims-follow C more a e r (v .registers) (v .claims) (v .compare) n t (S .write) copies r′ (ref .registers) (ref .cells) et (e26 .0) in
       let sd : C .side (C .routine t) ≡ C .side (C .routine a) = ap (C .side) ht in
       record {
-        inRom = suc .0;
+        inEntries = inside;
         home = ht ∙ v .home;
         used = omega arith;
         registers = ref .registers;
@@ -278,7 +280,7 @@ module _ (C : Certificate) (image : List ℕ) (global : Global C image) where
         cost = λ k.
             let z = v .cost k in
             let y =
-            cost-follows C more a e r (v .registers) (v .claims) (v .compare) n t (S .write) copies r′ (ref .registers) (ref .cells) c (suc .0) et ct e27
+            cost-follows C more a e r (v .registers) (v .claims) (v .compare) n t (S .write) copies r′ (ref .registers) (ref .cells) c inside et ct e27
             (λ q. k (sym (v .home) ∙ q)) in
             omega arith;
         stack =

@@ -14,7 +14,7 @@ use Rattle.base.specs.Addresses.{flagsCell}
 use Rattle.base.specs.Choice.{pick}
 use Rattle.base.specs.ChoiceLaws.{pick-has}
 use Rattle.base.specs.Formula.{Holds, eq, _‖_, decide-false, ltb-yes, le?, of-true}
-use Rattle.base.specs.Lengths.{romLength}
+use Rattle.base.specs.Lengths.{largestRom}
 use Rattle.isa.specs.declared.FlagSet.{FlagSet}
 use Rattle.chip.specs.Registers.{loadOf, storeOf}
 use Rattle.chip.specs.Laws.{load-ram, store-other, store-ram}
@@ -46,8 +46,8 @@ use Rattle.safety.specs.StepRules.{StepRules}
 abbrev three : List ℕ → ℕ → ℕ → ℕ → ℕ → ℕ → ℕ → List ℕ
 three r x y z u v w = storeOf (storeOf (storeOf r x u) y v) z w
 
-module _ (C : Certificate) (image : List ℕ) (gl : Global C image) (size : length image ≡ romLength) (bytes : (i : ℕ) → getD image i 0 < 256)
-    (a : ℕ) (e : EntryFacts C a) (r rec : List ℕ) (pre : Before C a r) (input : Input rec) (next : RomAddr) (ns : FlagSet) where
+module _ (rom : ℕ) (C : Certificate) (image : List ℕ) (gl : Global C image) (fits : rom ≤ largestRom) (size : length image ≡ rom)
+    (bytes : (i : ℕ) → getD image i 0 < 256) (a : ℕ) (e : EntryFacts C a) (r rec : List ℕ) (pre : Before C a r) (input : Input rec) (next : RomAddr) (ns : FlagSet) where
   -- the ranges that the claims at a give
   abbrev load : CodeAccess → Range
   load = loadRange C image a
@@ -81,29 +81,29 @@ module _ (C : Certificate) (image : List ℕ) (gl : Global C image) (size : leng
       }
 
   -- where 24 holds it lies in ROM, so that the machine's modulo does nothing
-  offset-reaches : (p : RegAddr) (up down : ℕ) → Holds (codeInRom C a (CodeAccess.Pair p up down)) → (t : ℕ)
-      → (down ≤ wordAt r rec (p .0) + up → wordAt r rec (p .0) + up < romLength + down → t + down ≡ wordAt r rec (p .0) + up)
+  offset-reaches : (p : RegAddr) (up down : ℕ) → Holds (codeInRom C rom a (CodeAccess.Pair p up down)) → (t : ℕ)
+      → (down ≤ wordAt r rec (p .0) + up → wordAt r rec (p .0) + up < rom + down → t + down ≡ wordAt r rec (p .0) + up)
       → PairReaches C a (p .0) up down t
   offset-reaches p up down h t q =
       let w = pair-reaches (p .0) 0 0 (wordAt r rec (p .0)) (h .0) refl in
       pair-reaches (p .0) up down t (h .0) (q (omega (arith, w)) (omega (arith, w)))
 
   short-reaches : (p : RegAddr) (x : ℕ) (b : Bool) → x < 256
-      → Holds (codeInRom C a (pick b (CodeAccess.Pair p x 0) (CodeAccess.Pair p 0 (256 - x))))
+      → Holds (codeInRom C rom a (pick b (CodeAccess.Pair p x 0) (CodeAccess.Pair p 0 (256 - x))))
       → Reaches C a (pick b (CodeAccess.Pair p x 0) (CodeAccess.Pair p 0 (256 - x)))
       (pick b ((wordAt r rec (p .0) + x) % 65536) ((wordAt r rec (p .0) + (65280 + x)) % 65536))
   short-reaches p x true s h = offset-reaches p x 0 h _ (λ l u. omega arith)
   short-reaches p x false s h = offset-reaches p 0 (256 - x) h _ (λ l u. omega arith)
 
-  code-reaches : (c : CodeAddress) → SmallOffset c → Holds (codeInRom C a (codeAccess c)) → Reaches C a (codeAccess c) (codeAddress c r rec)
+  code-reaches : (c : CodeAddress) → SmallOffset c → Holds (codeInRom C rom a (codeAccess c)) → Reaches C a (codeAccess c) (codeAddress c r rec)
   unfolding codeAddress
   code-reaches (Direct t) s h = refl
   code-reaches (Short p x) s h = short-reaches p x (ltb x 128) s h
   code-reaches (Long p x) s h = offset-reaches p x 0 h _ (λ l u. omega arith)
 
   -- an address that is reached lies in the image
-  in-rom : (c : CodeAccess) → Holds (codeInRom C a c) → (t : ℕ) → Reaches C a c t → t < length image
-  in-rom c h t k = omega (arith, reached-in-rom C a c h t k)
+  in-rom : (c : CodeAccess) → Holds (codeInRom C rom a c) → (t : ℕ) → Reaches C a c t → t < length image
+  in-rom c h t k = omega (arith, reached-in-rom C rom a c h t k)
 
   -- an instruction of the group changes what it writes and nothing else
   refines-reaching : (w : Write) (c : CodeAccess) (r′ : List ℕ) → Written C a w r r′ → Refines C a (reaching w c (flagEffect ns Changed)) r r′
@@ -111,7 +111,7 @@ module _ (C : Certificate) (image : List ℕ) (gl : Global C image) (size : leng
       refines-written C image gl a e (reaching w c (flagEffect ns Changed)) r r′ r′ refl refl m (m .registers) (λ x n. refl)
       (flags-kept ns r r′ (m .others flagsCell (gl .flagsClass)))
 
-  pub does-load-code : (d : RegAddr) (c : CodeAddress) → Shaped ns (Action.LoadCode d c) → StepRules C a (summaryOf load (Action.LoadCode d c) ns)
+  pub does-load-code : (d : RegAddr) (c : CodeAddress) → Shaped ns (Action.LoadCode d c) → StepRules C rom a (summaryOf load (Action.LoadCode d c) ns)
       → Does C image a (summaryOf load (Action.LoadCode d c) ns) (Action.LoadCode d c) ns r rec next 0 0
   unfolding summaryOf executeOf loadCodeOf rule23 rule24
   does-load-code d c s rules =
@@ -120,7 +120,7 @@ module _ (C : Certificate) (image : List ℕ) (gl : Global C image) (size : leng
       let k = code-reaches c s h in
       let hA = in-rom (codeAccess c) h A k in
       let v = getD image A 0 in
-      let g = loaded-holds C image a size (codeAccess c) h A k in
+      let g = loaded-holds C rom image a size (codeAccess c) h A k in
       let w = is-writable C a (d .0) e (rules .r23 .1 .1 .0 .1) in
       record {
         goes = rw (ltb-yes hA);
@@ -180,7 +180,7 @@ module _ (C : Certificate) (image : List ℕ) (gl : Global C image) (size : leng
   }
 
   pub does-load-code-step : (d p : RegAddr) (up : Bool) → Shaped ns (Action.LoadCodeStep d p up)
-      → StepRules C a (summaryOf load (Action.LoadCodeStep d p up) ns)
+      → StepRules C rom a (summaryOf load (Action.LoadCodeStep d p up) ns)
       → Does C image a (summaryOf load (Action.LoadCodeStep d p up) ns) (Action.LoadCodeStep d p up) ns r rec next 0 0
   unfolding summaryOf executeOf loadCodeStepOf steppedPair rule23 rule24
   does-load-code-step d p up s rules =
@@ -191,7 +191,7 @@ module _ (C : Certificate) (image : List ℕ) (gl : Global C image) (size : leng
       let k = pair-reaches (p .0) 0 0 A (h .0) refl in
       let hA = in-rom c h A k in
       let v = getD image A 0 in
-      let g = loaded-holds C image a size c h A k in
+      let g = loaded-holds C rom image a size c h A k in
       let w = (wordAt (storeOf r (d .0) v) rec (p .0) + pick up 1 65535) % 65536 in
       let hp = mapped-byte (p .0 + 1) (m .1 .1 .1 .1 .0) in
       let next-cell : p .0 + 1 ≡ (p .0 + 1) % 256 = omega arith in

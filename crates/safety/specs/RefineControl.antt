@@ -3,13 +3,11 @@
 use mathlib.Core.Path.{_≡_, refl}
 use mathlib.Core.Bool.{Bool, true, false}
 use mathlib.Core.List.{List}
-use Prim.Native.Nat.{ℕ, _<_}
+use Prim.Native.Nat.{ℕ}
 use native.Mathlib.Omega.{arith}
-use lib.ListN.{length, getD}
 use Rattle.base.specs.declared.RomAddr.{RomAddr}
 use Rattle.base.specs.Addresses.{flagsCell, spCell}
 use Rattle.base.specs.Choice.{pick}
-use Rattle.base.specs.Lengths.{romLength}
 use Rattle.isa.specs.declared.FlagSet.{FlagSet}
 use Rattle.chip.specs.Interrupts.{interruptsEnabled, setInterruptsOf}
 use Rattle.chip.specs.InterruptLaws.{set-interrupts-other, set-interrupts-enabled}
@@ -38,8 +36,7 @@ pick-address : (b : Bool) (to next : RomAddr) → pick b to next .0 ≡ pick b (
 pick-address true to next = refl
 pick-address false to next = refl
 
-module _ (C : Certificate) (image : List ℕ) (gl : Global C image) (size : length image ≡ romLength) (bytes : (i : ℕ) → getD image i 0 < 256)
-    (a : ℕ) (e : EntryFacts C a) (r rec : List ℕ) (pre : Before C a r) (input : Input rec) (next : RomAddr) (ns : FlagSet)
+module _ (rom : ℕ) (C : Certificate) (image : List ℕ) (gl : Global C image) (a : ℕ) (e : EntryFacts C a) (r rec : List ℕ) (pre : Before C a r) (input : Input rec) (next : RomAddr) (ns : FlagSet)
     (load : CodeAccess → Range) where
   -- nothing is stored to a cell
   nothing : Written C a Write.Nothing r r
@@ -50,7 +47,7 @@ module _ (C : Certificate) (image : List ℕ) (gl : Global C image) (size : leng
   same c to h =
       refines-beyond C image gl a e (controlling (flagEffect ns Changed) c to) r r r nothing (pre .registers) (λ x l. refl) refl (flags-kept ns r r refl) h
 
-  pub does-jump : (cc : ℕ) (to : RomAddr) → Shaped ns (Action.Jump cc to) → StepRules C a (summaryOf load (Action.Jump cc to) ns)
+  pub does-jump : (cc : ℕ) (to : RomAddr) → Shaped ns (Action.Jump cc to) → StepRules C rom a (summaryOf load (Action.Jump cc to) ns)
       → Does C image a (summaryOf load (Action.Jump cc to) ns) (Action.Jump cc to) ns r rec next cc (to .0)
   unfolding summaryOf executeOf jumpOf
   does-jump cc to s rules = record {
@@ -61,7 +58,7 @@ module _ (C : Certificate) (image : List ℕ) (gl : Global C image) (size : leng
     pointers = tt;
   }
 
-  pub does-idle : Shaped ns Action.Idle → StepRules C a (summaryOf load Action.Idle ns) → Does C image a (summaryOf load Action.Idle ns) Action.Idle ns r rec next 0 0
+  pub does-idle : Shaped ns Action.Idle → StepRules C rom a (summaryOf load Action.Idle ns) → Does C image a (summaryOf load Action.Idle ns) Action.Idle ns r rec next 0 0
   unfolding summaryOf executeOf
   does-idle s rules = record {
     goes = refl;
@@ -71,11 +68,11 @@ module _ (C : Certificate) (image : List ℕ) (gl : Global C image) (size : leng
     pointers = tt;
   }
 
-  pub does-nop : Shaped ns Action.Nop → StepRules C a (summaryOf load Action.Nop ns) → Does C image a (summaryOf load Action.Nop ns) Action.Nop ns r rec next 0 0
+  pub does-nop : Shaped ns Action.Nop → StepRules C rom a (summaryOf load Action.Nop ns) → Does C image a (summaryOf load Action.Nop ns) Action.Nop ns r rec next 0 0
   unfolding summaryOf executeOf
   does-nop s rules = does-onward C image gl a e (summaryOf load Action.Nop ns) Action.Nop ns r rec r next true refl refl (same Control.Nothing onward refl) tt
 
-  pub does-carry : (c : CarryChange) → Shaped ns (Action.Carry c) → StepRules C a (summaryOf load (Action.Carry c) ns)
+  pub does-carry : (c : CarryChange) → Shaped ns (Action.Carry c) → StepRules C rom a (summaryOf load (Action.Carry c) ns)
       → Does C image a (summaryOf load (Action.Carry c) ns) (Action.Carry c) ns r rec next 0 0
   unfolding summaryOf executeOf carryOf
   does-carry c s rules =
@@ -88,7 +85,7 @@ module _ (C : Certificate) (image : List ℕ) (gl : Global C image) (size : leng
   switched true = refl
   switched false = refl
 
-  pub does-interrupts : (on : Bool) → Shaped ns (Action.Interrupts on) → StepRules C a (summaryOf load (Action.Interrupts on) ns)
+  pub does-interrupts : (on : Bool) → Shaped ns (Action.Interrupts on) → StepRules C rom a (summaryOf load (Action.Interrupts on) ns)
       → Does C image a (summaryOf load (Action.Interrupts on) ns) (Action.Interrupts on) ns r rec next 0 0
   unfolding summaryOf executeOf
   does-interrupts on s rules =

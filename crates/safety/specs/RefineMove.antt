@@ -108,7 +108,7 @@ loadedNumber x n f b =
     pick b (moving Write.Nothing Access.Nothing Access.Nothing f (Load n))
     (moving (Write.Register x (Number n)) Access.Nothing Access.Nothing f Same)
 
-module _ (C : Certificate) (image : List ℕ) (gl : Global C image) (a : ℕ) (e : EntryFacts C a) (r rec : List ℕ) (pre : Before C a r) (input : Input rec) (next : RomAddr) (ns : FlagSet)
+module _ (rom : ℕ) (C : Certificate) (image : List ℕ) (gl : Global C image) (a : ℕ) (e : EntryFacts C a) (r rec : List ℕ) (pre : Before C a r) (input : Input rec) (next : RomAddr) (ns : FlagSet)
     (load : CodeAccess → Range) where
   -- what it names has changed
   abbrev named : FlagEffect
@@ -139,7 +139,7 @@ module _ (C : Certificate) (image : List ℕ) (gl : Global C image) (a : ℕ) (e
 
   -- INC to SRA
   modifies : (op : Unary) (d : Operand) → HasPlace d
-      → StepRules C a (moving (writeTo d (modifyValue op)) Access.Nothing Access.Nothing named Same)
+      → StepRules C rom a (moving (writeTo d (modifyValue op)) Access.Nothing Access.Nothing named Same)
       → Does C image a (moving (writeTo d (modifyValue op)) Access.Nothing Access.Nothing named Same) (Action.Modify op d) ns r rec next 0 0
   unfolding executeOf modifyOf tableOf rule23 rule24
   modifies op d p k =
@@ -153,7 +153,7 @@ module _ (C : Certificate) (image : List ℕ) (gl : Global C image) (a : ℕ) (e
       (flags-set ns r _ (m .flags) (w .others flagsCell (gl .flagsClass))))
       (write-table d (modifyValue op) 0 target)
 
-  pub does-modify : (op : Unary) (d : Operand) → Shaped ns (Action.Modify op d) → StepRules C a (summaryOf load (Action.Modify op d) ns)
+  pub does-modify : (op : Unary) (d : Operand) → Shaped ns (Action.Modify op d) → StepRules C rom a (summaryOf load (Action.Modify op d) ns)
       → Does C image a (summaryOf load (Action.Modify op d) ns) (Action.Modify op d) ns r rec next 0 0
   unfolding summaryOf
   does-modify op (Register x) h k = modifies op (Register x) tt k
@@ -161,7 +161,7 @@ module _ (C : Certificate) (image : List ℕ) (gl : Global C image) (a : ℕ) (e
   does-modify op (Immediate n) h k = absurd h
 
   -- ADD to XOR store, CP, TM and TCM do not: b says which
-  binary-refines : (b : Bool) (op : Alu) (x : RegAddr) (s : Operand) → Small s → (op ≡ Cp → ns ≡ allFlags) → StepRules C a (binarySummary b op (Register x) s ns)
+  binary-refines : (b : Bool) (op : Alu) (x : RegAddr) (s : Operand) → Small s → (op ≡ Cp → ns ≡ allFlags) → StepRules C rom a (binarySummary b op (Register x) s ns)
       → Refines C a (binarySummary b op (Register x) s ns) r
       (withFlags (storeIf r b x (operate op (loadOf r rec (x .0)) (fetchOf r rec s .value) carryNow .value)) ns
       (operate op (loadOf r rec (x .0)) (fetchOf r rec s .value) carryNow .flags))
@@ -178,7 +178,7 @@ module _ (C : Certificate) (image : List ℕ) (gl : Global C image) (a : ℕ) (e
       refines-flags C image gl a e _ r r ns _ refl refl (nothing-written C a r (pre .registers)) (binary-flags r rec ns op x s carryNow (pre .registers) all)
 
   -- its registers are mapped, its pointer in the table
-  binary-facts : (b : Bool) (op : Alu) (x : RegAddr) (s : Operand) → StepRules C a (binarySummary b op (Register x) s ns)
+  binary-facts : (b : Bool) (op : Alu) (x : RegAddr) (s : Operand) → StepRules C rom a (binarySummary b op (Register x) s ns)
       → (mappedOf (x .0) ≡ true) × (fetchOf r rec s .ok ≡ true) × InTable C (tableOf C a (binarySummary b op (Register x) s ns)) r rec s
   unfolding rule23 rule24 tableOf
   binary-facts true op x s k =
@@ -188,7 +188,7 @@ module _ (C : Certificate) (image : List ℕ) (gl : Global C image) (a : ℕ) (e
       let source = may-read C a s (k .r23 .1 .0) (k .r24 .1 .0) in
       (k .r23 .0, fetch-ok s source, read-table s source)
 
-  pub does-binary : (op : Alu) (d s : Operand) → Shaped ns (Action.Binary op d s) → StepRules C a (summaryOf load (Action.Binary op d s) ns)
+  pub does-binary : (op : Alu) (d s : Operand) → Shaped ns (Action.Binary op d s) → StepRules C rom a (summaryOf load (Action.Binary op d s) ns)
       → Does C image a (summaryOf load (Action.Binary op d s) ns) (Action.Binary op d s) ns r rec next 0 0
   unfolding summaryOf executeOf binaryOf placeOf
   does-binary op (Register x) s h k =
@@ -201,7 +201,7 @@ module _ (C : Certificate) (image : List ℕ) (gl : Global C image) (a : ℕ) (e
   -- LD, but of SP with a number; t: an address that the source's pointer gives lies in the table
   loads : (d s : Operand) (n : NewValue) → HasPlace d → Small s → Gives d n r (fetchOf r rec s .value)
       → (Allowed C a anyPlace s → InTable C (tableOf C a (moving (writeTo d n) Access.Nothing (reading s) named Same)) r rec s)
-      → StepRules C a (moving (writeTo d n) Access.Nothing (reading s) named Same)
+      → StepRules C rom a (moving (writeTo d n) Access.Nothing (reading s) named Same)
       → Does C image a (moving (writeTo d n) Access.Nothing (reading s) named Same) (Action.Load d s) ns r rec next 0 0
   unfolding executeOf loadInto tableOf rule23 rule24
   loads d s n p small gives t k =
@@ -226,13 +226,13 @@ module _ (C : Certificate) (image : List ℕ) (gl : Global C image) (a : ℕ) (e
       (λ z l. other z (omega arith)) same (flags-kept ns r _ (other flagsCell (omega arith))) (enabled-same r (storeOf r (x .0) n) (other symCell (omega arith))))
       (tt, tt)
 
-  loads-number : (x : RegAddr) (n : ℕ) → n < 256 → (b : Bool) → eqb (x .0) spCell ≡ b → StepRules C a (loadedNumber x n named b)
+  loads-number : (x : RegAddr) (n : ℕ) → n < 256 → (b : Bool) → eqb (x .0) spCell ≡ b → StepRules C rom a (loadedNumber x n named b)
       → Does C image a (loadedNumber x n named b) (Action.Load (Register x) (Immediate n)) ns r rec next 0 0
   unfolding fetchOf
   loads-number x n h true q k = loads-sp x n h (eqb→eq (x .0) spCell (of-true (eqb (x .0) spCell) q))
   loads-number x n h false q k = loads (Register x) (Immediate n) (Number n) tt h (λ l r′ p. p) (λ z. tt) k
 
-  pub does-load : (d s : Operand) → Shaped ns (Action.Load d s) → StepRules C a (summaryOf load (Action.Load d s) ns)
+  pub does-load : (d s : Operand) → Shaped ns (Action.Load d s) → StepRules C rom a (summaryOf load (Action.Load d s) ns)
       → Does C image a (summaryOf load (Action.Load d s) ns) (Action.Load d s) ns r rec next 0 0
   unfolding summaryOf tableOf
   does-load (Register x) (Immediate n) h k = loads-number x n h (eqb (x .0) spCell) refl k

@@ -6,10 +6,9 @@ use mathlib.Core.Bool.{_&&_}
 use mathlib.Core.List.{List}
 use Prim.Native.Nat.{ℕ, _+_, _%_, _≤_, _<_}
 use native.Mathlib.Omega.{arith}
-use lib.ListN.{length, getD, set}
+use lib.ListN.{set}
 use Rattle.base.specs.declared.RomAddr.{RomAddr}
 use Rattle.base.specs.Addresses.{flagsCell, spCell, symCell}
-use Rattle.base.specs.Lengths.{romLength}
 use Rattle.isa.specs.declared.FlagSet.{FlagSet}
 use Rattle.chip.specs.Registers.{mappedOf, loadOf, storeOf}
 use Rattle.chip.specs.Laws.{mapped-ram, store-other}
@@ -47,14 +46,13 @@ abbrev popping : Operand → FlagSet → Summary
 popping d ns = moving (writeTo d Unknown) Access.Nothing Access.Nothing (flagEffect ns Changed) Pop
 
 -- deep: rule 25 tells depth 255 from every other, and no depth is greater
-module _ (C : Certificate) (image : List ℕ) (gl : Global C image) (size : length image ≡ romLength) (bytes : (i : ℕ) → getD image i 0 < 256)
-    (a : ℕ) (e : EntryFacts C a) (r rec : List ℕ) (pre : Before C a r) (input : Input rec) (next : RomAddr)
+module _ (rom : ℕ) (C : Certificate) (image : List ℕ) (gl : Global C image) (a : ℕ) (e : EntryFacts C a) (r rec : List ℕ) (pre : Before C a r) (input : Input rec) (next : RomAddr)
     (ns : FlagSet) (load : CodeAccess → Range) (deep : C .depth a ≤ unloaded) where
   -- the claims hold with another SP
   claims-kept : (s : ℕ) → Claims C a (set r spCell s)
   claims-kept s x h = rw (sp-other r s x (omega arith)) (pre .claims x h)
 
-  pub does-push : (s : Operand) → Shaped ns (Action.Push s) → StepRules C a (summaryOf load (Action.Push s) ns)
+  pub does-push : (s : Operand) → Shaped ns (Action.Push s) → StepRules C rom a (summaryOf load (Action.Push s) ns)
       → Does C image a (summaryOf load (Action.Push s) ns) (Action.Push s) ns r rec next 0 0
   unfolding summaryOf executeOf pushOperand lowered storeTop rule23 rule24 tableOf
   does-push s h rules =
@@ -86,7 +84,7 @@ module _ (C : Certificate) (image : List ℕ) (gl : Global C image) (size : leng
       })
       (in-read-table C image gl a e r1 rec (claims-kept sp) anyPlace s 0 may)
 
-  pop-place : (d : Operand) → HasPlace d → StepRules C a (popping d ns) → Does C image a (popping d ns) (Action.Pop d) ns r rec next 0 0
+  pop-place : (d : Operand) → HasPlace d → StepRules C rom a (popping d ns) → Does C image a (popping d ns) (Action.Pop d) ns r rec next 0 0
   unfolding executeOf popOperand raised rule23 rule24 tableOf
   pop-place d h rules =
       let loaded : C .depth a < unloaded = let n = rules .stack .0 in omega arith in
@@ -111,7 +109,7 @@ module _ (C : Certificate) (image : List ℕ) (gl : Global C image) (size : leng
       (enabled-same r (set r1 spCell sp) (sp-other r1 sp symCell (omega arith) ∙ w .others symCell (gl .symClass))))
       (in-write-table C image gl a e r rec (pre .claims) (writablePlace C a) d Unknown 0 may)
 
-  pub does-pop : (d : Operand) → Shaped ns (Action.Pop d) → StepRules C a (summaryOf load (Action.Pop d) ns)
+  pub does-pop : (d : Operand) → Shaped ns (Action.Pop d) → StepRules C rom a (summaryOf load (Action.Pop d) ns)
       → Does C image a (summaryOf load (Action.Pop d) ns) (Action.Pop d) ns r rec next 0 0
   unfolding summaryOf
   does-pop (Register x) h rules = pop-place (Register x) tt rules

@@ -1,4 +1,5 @@
--- Checker rules 20 to 27 of 01 as formulas: `decide` of a rule is what the checker computes, `Holds` what it means.
+-- Checker rules 20 to 27 of 01 as formulas: `decide` of a rule is what the checker computes, `Holds` what it means. A rule that names ROM's end
+-- takes the bytes of ROM, rom (request 04).
 -- Assumes nothing.
 use Prim.Native.Nat.{ℕ, _+_, _-_, _*_}
 use mathlib.Core.Bool.{Bool, true, false, not, _&&_, _||_}
@@ -8,7 +9,7 @@ use lib.Dec.{eqb, ltb, leb}
 use Rattle.base.specs.Addresses.{flagsCell, spCell, symCell}
 use Rattle.base.specs.Choice.{pick, choose}
 use Rattle.base.specs.Formula.{Formula, always, never, le, lt, eq, test, neg, _&_, _‖_, _⇒_, forallBelow}
-use Rattle.base.specs.Lengths.{romLength, greatestEntryCost}
+use Rattle.base.specs.Lengths.{largestRom, greatestEntryCost}
 use Rattle.chip.specs.Registers.{mappedOf}
 use Rattle.certificate.specs.declared.NewValue.{NewValue}
 use Rattle.certificate.specs.declared.NewValue.the-variants.{Number, OneMore, OneLess, Within, CopyOf, Unknown}
@@ -234,15 +235,15 @@ module _ (C : Certificate) where
       & (eq (C .depth a) unloaded ⇒ eq (C .routine a) 1)
       & (eq (C .routine a) 1 ⇒ eq (C .base a) 0 & eq (C .slope a) 0 & eq (C .direction a) 0)
 
-  -- an address with or without an entry
-  unfoldable pub addressRule : ℕ → Formula
-  addressRule a = (eq (C .routine a) 0 ⇒ emptyEntry a) & (neg (eq (C .routine a) 0) ⇒ entryRule a)
+  -- an address with or without an entry; request 04: "allows no certificate entry past" ROM's end
+  unfoldable pub addressRule : ℕ → ℕ → Formula
+  addressRule rom a = (eq (C .routine a) 0 ⇒ emptyEntry a) & (neg (eq (C .routine a) 0) ⇒ lt a rom & entryRule a)
 
   -- every start has its own routine's entry, depth 0 (main 255)
-  unfoldable pub startRule : ℕ → Formula
-  startRule n =
+  unfoldable pub startRule : ℕ → ℕ → Formula
+  startRule rom n =
       used n
-      ⇒ lt (C .start n) romLength & eq (C .routine (C .start n)) n & eq (C .depth (C .start n)) (pick (eqb n 1) unloaded 0)
+      ⇒ lt (C .start n) rom & eq (C .routine (C .start n)) n & eq (C .depth (C .start n)) (pick (eqb n 1) unloaded 0)
       & (eq (C .side n) 1 ‖ eq (C .side n) 2)
 
   -- without claims or compare
@@ -250,8 +251,8 @@ module _ (C : Certificate) where
   bareRule a = eq (C .firstCell a) noCell & eq (C .secondCell a) noCell & eq (C .compareCell a) noCell
 
   -- F < T <= C0H; main starts at 0100H, side 1, bound 0; service starts at the vector, side 2; row 0 is zero; an entry's cycles are 0 to 63
-  unfoldable pub rule20 : List ℕ → Formula
-  rule20 image =
+  unfoldable pub rule20 : ℕ → List ℕ → Formula
+  rule20 rom image =
       lt (C .floor) (C .top)
       & le (C .top) 0xC0
       & forallBelow 256 cellRule
@@ -261,10 +262,10 @@ module _ (C : Certificate) where
       & eq (C .bound 1) 0
       & eq (C .start 2) (getD image 0 0 * 256 + getD image 1 0)
       & eq (C .side 2) 2
-      & forallBelow 64 startRule
+      & forallBelow 64 (startRule rom)
       & bareRule (C .start 1)
       & bareRule (C .start 2)
-      & forallBelow romLength addressRule
+      & forallBelow largestRom (addressRule rom)
       & le (C .entryCost) greatestEntryCost
 
   -- What the rules at an address say of an instruction there: a its address, S its summary, next the address behind it --
@@ -284,18 +285,18 @@ module _ (C : Certificate) where
   -- Rule 21 --
 
   -- each successor is an entry of the same routine, n
-  unfoldable pub successor : ℕ → ℕ → Formula
-  successor n t = lt t romLength & eq (C .routine t) n
+  unfoldable pub successor : ℕ → ℕ → ℕ → Formula
+  successor rom n t = lt t rom & eq (C .routine t) n
 
   -- CALL in routine n goes to the start of a greater number on the same side
-  unfoldable pub callTarget : ℕ → ℕ → Formula
-  callTarget n t = lt t romLength & lt n (callee t) & eq (C .start (callee t)) t & eq (C .side (callee t)) (C .side n)
+  unfoldable pub callTarget : ℕ → ℕ → ℕ → Formula
+  callTarget rom n t = lt t rom & lt n (callee t) & eq (C .start (callee t)) t & eq (C .side (callee t)) (C .side n)
 
-  unfoldable pub rule21 : ℕ → Summary → ℕ → Formula
-  rule21 a S next =
+  unfoldable pub rule21 : ℕ → ℕ → Summary → ℕ → Formula
+  rule21 rom a S next =
       rule22 a S
-      ⇒ edges (S .flow) next (λ e. successor (C .routine a) (e .to))
-      & calls (S .flow) (λ t. successor (C .routine a) next & callTarget (C .routine a) t)
+      ⇒ edges (S .flow) next (λ e. successor rom (C .routine a) (e .to))
+      & calls (S .flow) (λ t. successor rom (C .routine a) next & callTarget rom (C .routine a) t)
 
   -- Rule 23 --
 
@@ -336,19 +337,19 @@ module _ (C : Certificate) where
 
   -- request 14: every address that the claims on both halves of the pair, with the offset unwrapped, let LDC reach lies in ROM. These two are the
   -- lowest and the highest of them. A high half without a claim counts as 0 to 255, and so reaches past ROM
-  abbrev pub codeInRom : ℕ → CodeAccess → Formula
-  codeInRom a CodeAccess.Nothing = always
-  codeInRom a (CodeAccess.Direct t) = lt (t .0) romLength
-  codeInRom a (CodeAccess.Pair p up down) =
+  abbrev pub codeInRom : ℕ → ℕ → CodeAccess → Formula
+  codeInRom rom a CodeAccess.Nothing = always
+  codeInRom rom a (CodeAccess.Direct t) = lt (t .0) rom
+  codeInRom rom a (CodeAccess.Pair p up down) =
       claimed a (p .0) & le down (low a (p .0) * 256 + low a (p .0 + 1) + up)
-      & lt (high a (p .0) * 256 + high a (p .0 + 1) + up) (romLength + down)
+      & lt (high a (p .0) * 256 + high a (p .0 + 1) + up) (rom + down)
 
   -- by the test of what LDC reaches
   abbrev pub rule24By : (ℕ → CodeAccess → Formula) → ℕ → Summary → Formula
   rule24By inRom a S = pointedRead a (S .first) & pointedRead a (S .second) & pointedWrite a (S .write) & inRom a (S .code)
 
-  unfoldable pub rule24 : ℕ → Summary → Formula
-  rule24 a S = rule24By codeInRom a S
+  unfoldable pub rule24 : ℕ → ℕ → Summary → Formula
+  rule24 rom a S = rule24By (codeInRom rom) a S
 
   -- Rule 25 --
 

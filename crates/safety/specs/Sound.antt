@@ -12,14 +12,17 @@ use Rattle.base.specs.Addresses.{spCell, symCell}
 use Rattle.base.specs.Formula.{eqb-yes, leb-yes}
 use Rattle.base.specs.Outcome.{Outcome}
 use Rattle.base.specs.Outcome.Outcome.{value}
-use Rattle.base.specs.Lengths.{romLength, greatestEntryCost, recordLength}
+use Rattle.base.specs.Lengths.{largestRom, greatestEntryCost, recordLength}
+use Rattle.base.specs.Parts.{Part}
 use Rattle.isa.specs.declared.FlagSet.{FlagSet}
 use Rattle.isa.specs.declared.Instruction.{Instruction}
 use Rattle.isa.specs.Map.{cyclesOf}
+use Rattle.chip.specs.Registers.{inputsOf}
 use Rattle.chip.specs.Interrupts.{interruptsEnabled, pendingAny, pendingEdge}
 use Rattle.chip.specs.Reset.{resetRegisters}
 use Rattle.chip.specs.ResetLaws.{reset-enabled}
 use Rattle.chip.specs.InterruptLaws.{enabled-same}
+use Rattle.chip.specs.Laws.{inputs-bytes}
 use Rattle.decode.specs.Decode.{decodeAt}
 use Rattle.action.specs.Action.{actionOf}
 use Rattle.semantics.specs.declared.Mode.{Mode}
@@ -35,11 +38,11 @@ use Rattle.semantics.specs.Reset.{IsReset}
 use Rattle.certificate.specs.Layout.{Certificate}
 use Rattle.safety.specs.Verdicts.{summaryAt, costAt}
 use Rattle.safety.specs.Statement.{Frame, Event, entered, waited, executed, decodedEvent, modeEvent, dueEvent, eventOf, Monitored, spent, loadedBy, loadsTop}
-use Rattle.safety.specs.Statement.{configurationOf, stepped, actedState, afterStep, monitorStep, EventRight, Within, StepRight, Walk, Schedule, RunRight}
+use Rattle.safety.specs.Statement.{setupFor, stepped, actedState, afterStep, monitorStep, EventRight, Within, StepRight, Walk, Schedule, RunRight}
 use Rattle.safety.specs.Statement.{fromReset, Demand3, byReset}
 use Rattle.safety.specs.Invariant.{at, Registers, Awake, Invariant, tableOf}
-use Rattle.safety.specs.Accepted.{Accepts}
-use Rattle.safety.specs.Facts.{Global, rule20-facts, global}
+use Rattle.safety.specs.Accepted.{Accepts, RulesHold}
+use Rattle.safety.specs.Facts.{Global, rule20-facts, entry-in-rom, global}
 use Rattle.safety.specs.Memory.{Input}
 use Rattle.safety.specs.DecodedShape.{decoded-shaped}
 use Rattle.safety.specs.Edge.{CertificateFacts, in-range}
@@ -69,14 +72,22 @@ finish-is : (s : State) (e : Executed) (retired : Bool) (cost : ℕ) → e .next
 unfolding finishOf
 finish-is s e retired cost h = rw (eqb-yes h)
 
-module _ (C : Certificate) (image : List ℕ) (ok : Accepts C image) (facts : CertificateFacts C) (size : length image ≡ romLength)
-    (bytes : (i : ℕ) → getD image i 0 < 256) where
+module _ (P : Part) (C : Certificate) (image : List ℕ) (fits : P .rom ≤ largestRom) (ok : Accepts (P .rom) C image) (facts : CertificateFacts C)
+    (size : length image ≡ P .rom) (bytes : (i : ℕ) → getD image i 0 < 256) where
   whole : Global C image
-  whole = global C image ok
+  whole = global (P .rom) C image fits ok
+
+  -- the inputs of a step under a record
+  abbrev inputs : List ℕ → List ℕ
+  inputs rec = inputsOf (P .grounds) rec
+
+  -- the rules hold at an entry
+  rules-there : (a : ℕ) → a < largestRom → 1 ≤ C .routine a → RulesHold (P .rom) C image a
+  rules-there a h u = ok .rules a (entry-in-rom (P .rom) C image (rule20-facts (P .rom) C image (ok .r20)) a h u) (λ z. omega arith)
 
   -- a machine with the certificate's cycles of an entry is valid
-  valid : validMachine (configurationOf C) image ≡ true
-  valid = rw (leb-yes {b = greatestEntryCost} (rule20-facts C image (ok .r20) .entryCost), size)
+  valid : validMachine (setupFor P C) image ≡ true
+  valid = rw (leb-yes {b = greatestEntryCost} (rule20-facts (P .rom) C image (ok .r20) .entryCost), eqb-yes size)
 
   -- the table of the instruction at each ROM address
   unfoldable pub tables : ℕ → ℕ
@@ -90,7 +101,7 @@ module _ (C : Certificate) (image : List ℕ) (ok : Accepts C image) (facts : Ce
   -- the act x of a step that is the event e
   record Good (m : Monitored) (rec : List ℕ) (x : Acted) (e : Event) : Type 0 where
     goes : x .stop ≡ 0
-    event : EventRight C image tables m rec e (x .state .pc .0)
+    event : EventRight P C image tables m rec e (x .state .pc .0)
     stack : loadedBy C e (m .loaded) ≡ true → (C .floor ≤ spOf (x .state .regs)) × (spOf (x .state .regs) ≤ C .top)
     within : Within C (spent C image e (m .state) (m .frames) .inner ∷ spent C image e (m .state) (m .frames) .outer)
     kept : Kept (afterStep C image 0 e m (x .state) (x .state))
@@ -129,15 +140,15 @@ module _ (C : Certificate) (image : List ℕ) (ok : Accepts C image) (facts : Ce
 
     -- an instruction that is right
     good-right : (d : Instruction × ℕ × FlagSet) → decodeAt image (m .state .pc .0) ≡ value d
-        → Right C image (m .loaded) (m .state .pc .0) (actionOf (d .0) (behind (m .state .pc) (d .1))) (d .2) (requested (m .state) rec) rec
+        → Right C image (m .loaded) (m .state .pc .0) (actionOf (d .0) (behind (m .state .pc) (d .1))) (d .2) (requested (m .state) rec) (inputs rec)
         (behind (m .state .pc) (d .1)) (costAt image (m .state .pc .0)) (m .frames)
-        (executeOf (actionOf (d .0) (behind (m .state .pc) (d .1))) (d .2) image (requested (m .state) rec) rec (behind (m .state .pc) (d .1)))
-        → Good m rec (afterDecode (value d) image (m .state) (requested (m .state) rec) rec) (decodedEvent (value d) (m .state .pc))
+        (executeOf (actionOf (d .0) (behind (m .state .pc) (d .1))) (d .2) image (requested (m .state) rec) (inputs rec) (behind (m .state .pc) (d .1)))
+        → Good m rec (afterDecode (value d) image (m .state) (requested (m .state) rec) (inputs rec)) (decodedEvent (value d) (m .state .pc))
     unfolding afterDecode costAt tables
     good-right d q r =
         let next = behind (m .state .pc) (d .1) in
         let act = actionOf (d .0) next in
-        let e = executeOf act (d .2) image (requested (m .state) rec) rec next in
+        let e = executeOf act (d .2) image (requested (m .state) rec) (inputs rec) next in
         subst (λ (x : Acted). Good m rec x (executed act next)) (finish-is (m .state) e true (cyclesOf (getD image (m .state .pc .0) 0)) (r .goes))
         (record {
           goes = refl;
@@ -158,7 +169,7 @@ module _ (C : Certificate) (image : List ℕ) (ok : Accepts C image) (facts : Ce
   reset-invariant : (r : List ℕ) → Registers r → interruptsEnabled r ≡ false
       → Invariant C false r 0x100 (record { routine = 1; returnTo = 0; cycles = 0; opener = byReset }) []
   reset-invariant r g off = record {
-    inRom = omega arith;
+    inEntries = omega arith;
     home = whole .mainRoutine;
     used = let z = whole .mainRoutine in omega arith;
     registers = g;
@@ -183,16 +194,16 @@ module _ (C : Certificate) (image : List ℕ) (ok : Accepts C image) (facts : Ce
 
   -- the instruction at the program counter
   instruction-right : (m : Monitored) (rec : List ℕ) → Kept m → Input rec → (d : Instruction × ℕ × FlagSet) → decodeAt image (m .state .pc .0) ≡ value d
-      → Right C image (m .loaded) (m .state .pc .0) (actionOf (d .0) (behind (m .state .pc) (d .1))) (d .2) (requested (m .state) rec) rec
+      → Right C image (m .loaded) (m .state .pc .0) (actionOf (d .0) (behind (m .state .pc) (d .1))) (d .2) (requested (m .state) rec) (inputs rec)
       (behind (m .state .pc) (d .1)) (costAt image (m .state .pc .0)) (m .frames)
-      (executeOf (actionOf (d .0) (behind (m .state .pc) (d .1))) (d .2) image (requested (m .state) rec) rec (behind (m .state .pc) (d .1)))
+      (executeOf (actionOf (d .0) (behind (m .state .pc) (d .1))) (d .2) image (requested (m .state) rec) (inputs rec) (behind (m .state .pc) (d .1)))
   instruction-right m rec k input d q =
       let a = m .state .pc .0 in
       let v = k .invariant in
-      let u = v .used in
       let next = behind (m .state .pc) (d .1) in
-      right C image ok facts size bytes (m .loaded) a (actionOf (d .0) next) (d .2) (requested (m .state) rec) rec next (costAt image a) (m .frames)
-      (decoded-shaped image bytes a d q next) input (rules-decoded C image a d q (ok .rules a (v .inRom) (λ z. omega arith))) (requested-kept m rec k input)
+      right (P .rom) C image fits ok facts size bytes (m .loaded) a (actionOf (d .0) next) (d .2) (requested (m .state) rec) (inputs rec) next (costAt image a) (m .frames)
+      (decoded-shaped image bytes a d q next) (inputs-bytes (P .grounds) rec input)
+      (rules-decoded (P .rom) C image a d q (rules-there a (v .inEntries) (v .used))) (requested-kept m rec k input)
 
   -- an interrupt entry
   good-entered : (m : Monitored) (rec : List ℕ) → Kept m → Input rec → interruptsEnabled (requested (m .state) rec) ≡ true
@@ -212,68 +223,67 @@ module _ (C : Certificate) (image : List ℕ) (ok : Accepts C image) (facts : Ce
       })
 
   module _ (m : Monitored) (rec : List ℕ) (k : Kept m) (input : Input rec) where
-    good-decoded : Good m rec (instructionAct image (m .state) (requested (m .state) rec) rec) (decodedEvent (decodeAt image (m .state .pc .0)) (m .state .pc))
+    good-decoded : Good m rec (instructionAct image (m .state) (requested (m .state) rec) (inputs rec)) (decodedEvent (decodeAt image (m .state .pc .0)) (m .state .pc))
     unfolding instructionAct
     good-decoded =
         let v = k .invariant in
-        let u = v .used in
-        let h = ok .rules (m .state .pc .0) (v .inRom) (λ q. omega arith) in
-        let d = decoded-at C image (m .state .pc .0) h in
-        subst (λ (o : Outcome (Instruction × ℕ × FlagSet)). Good m rec (afterDecode o image (m .state) (requested (m .state) rec) rec) (decodedEvent o (m .state .pc)))
+        let h = rules-there (m .state .pc .0) (v .inEntries) (v .used) in
+        let d = decoded-at (P .rom) C image (m .state .pc .0) h in
+        subst (λ (o : Outcome (Instruction × ℕ × FlagSet)). Good m rec (afterDecode o image (m .state) (requested (m .state) rec) (inputs rec)) (decodedEvent o (m .state .pc)))
         (sym (d .1)) (good-right m rec k input (d .0) (d .1) (instruction-right m rec k input (d .0) (d .1)))
 
-    good-mode : (mode : Mode) → Awake mode → Good m rec (modeAct mode image (m .state) (requested (m .state) rec) rec) (modeEvent mode image (m .state .pc))
+    good-mode : (mode : Mode) → Awake mode → Good m rec (modeAct mode image (m .state) (requested (m .state) rec) (inputs rec)) (modeEvent mode image (m .state .pc))
     unfolding modeAct
     good-mode Running h = good-decoded
     good-mode Idle h = good-waiting m rec k input idleCycles
     good-mode Stopped h = absurd h
 
     good-due : (b : Bool) → entryDue (requested (m .state) rec) (m .state .mode) ≡ b
-        → Good m rec (actAfterRequests b (configurationOf C) image (m .state) (requested (m .state) rec) rec) (dueEvent b (m .state .mode) image (m .state .pc))
+        → Good m rec (actAfterRequests b (setupFor P C) image (m .state) (requested (m .state) rec) (inputs rec)) (dueEvent b (m .state .mode) image (m .state .pc))
     unfolding actAfterRequests
     good-due true q = good-entered m rec k input (due-enabled (requested (m .state) rec) (m .state .mode) q)
     good-due false q = good-mode (m .state .mode) (k .awake)
 
     -- the act of the step
     abbrev acted : Acted
-    acted = actedOf (configurationOf C) image (m .state) rec
+    acted = actedOf (setupFor P C) image (m .state) rec
 
     good-act : Good m rec acted (eventOf image (m .state) rec)
     unfolding actedOf eventOf
     good-act = good-due (entryDue (requested (m .state) rec) (m .state .mode)) refl
 
-    good-step : length rec ≡ recordLength → Settles m acted (eventOf image (m .state) rec) (stepped C image m rec)
+    good-step : length rec ≡ recordLength → Settles m acted (eventOf image (m .state) rec) (stepped P C image m rec)
     unfolding stepOf
     good-step h = rw (valid, h) (good-settled m rec acted (eventOf image (m .state) rec) good-act)
 
-    step-right : length rec ≡ recordLength → StepRight C image tables m rec
+    step-right : length rec ≡ recordLength → StepRight P C image tables m rec
     step-right h = let g = good-act in record { goes = good-step h .goes; event = g .event; stack = g .stack; within = g .within }
 
-    step-kept : length rec ≡ recordLength → Kept (monitorStep C image m rec)
+    step-kept : length rec ≡ recordLength → Kept (monitorStep P C image m rec)
     unfolding monitorStep
     step-kept h =
         let g = good-step h in
-        subst (λ (n : ℕ). Kept (afterStep C image n (eventOf image (m .state) rec) m (actedState C image m rec) (stepped C image m rec .state)))
+        subst (λ (n : ℕ). Kept (afterStep C image n (eventOf image (m .state) rec) m (actedState P C image m rec) (stepped P C image m rec .state)))
         (sym (g .goes)) (g .kept)
 
   walk : (k : ℕ) (schedule : List ℕ) → ((i : ℕ) → getD schedule i 0 < 256) → (i : ℕ) → k + i ≤ length schedule / recordLength → (m : Monitored)
-      → Kept m → Walk C image k tables schedule i m
+      → Kept m → Walk P C image k tables schedule i m
   walk zero schedule b i h m p = tt
   walk (suc k) schedule b i h m p =
       let rec = recordAt schedule i in
       let input = record-bytes schedule b i in
       let l = record-length schedule i (omega arith) in
-      (step-right m rec p input l, walk k schedule b (i + 1) (omega arith) (monitorStep C image m rec) (step-kept m rec p input l))
+      (step-right m rec p input l, walk k schedule b (i + 1) (omega arith) (monitorStep P C image m rec) (step-kept m rec p input l))
 
-  run-right : (s : State) → IsReset s → (schedule : List ℕ) → Schedule schedule → RunRight C image tables s schedule
+  run-right : (s : State) → IsReset s → (schedule : List ℕ) → Schedule schedule → RunRight P C image tables s schedule
   unfolding runOf
   run-right s h schedule sc =
       let n = length schedule / recordLength in
-      let w : Walk C image n tables schedule 0 (fromReset s) = walk n schedule (sc .bytes) 0 (omega arith) (fromReset s) (reset-kept s h) in
-      let d = walk-run C image n tables schedule 0 (fromReset s) w in
+      let w : Walk P C image n tables schedule 0 (fromReset s) = walk n schedule (sc .bytes) 0 (omega arith) (fromReset s) (reset-kept s h) in
+      let d = walk-run P C image n tables schedule 0 (fromReset s) w in
       let z : 0 + n ≡ n = omega arith in
       record { steps = rw (valid, sc .whole) (d .0 ∙ z); stop = rw (valid, sc .whole) (d .1); walk = w }
 
   -- demand 3 for a certificate that breaks no rule
-  pub demand-met : Demand3 C image
+  pub demand-met : Demand3 P C image
   demand-met = (tables, run-right)

@@ -13,22 +13,24 @@ use Rattle.base.specs.Addresses.{spCell}
 use Rattle.base.specs.Outcome.{Outcome}
 use Rattle.base.specs.Outcome.Outcome.{value, refused}
 use Rattle.base.specs.Lengths.{recordLength}
+use Rattle.base.specs.Parts.{Part}
 use Rattle.isa.specs.declared.FlagSet.{FlagSet}
 use Rattle.isa.specs.declared.Instruction.{Instruction}
 use Rattle.isa.specs.Map.{cyclesOf}
 use Rattle.decode.specs.Decode.{decodeAt}
+use Rattle.chip.specs.Registers.{inputsOf}
 use Rattle.action.specs.declared.Operand.{Operand}
 use Rattle.action.specs.declared.Operand.the-variants.{Register, Indirect, Immediate}
 use Rattle.action.specs.declared.Action.{Action}
 use Rattle.action.specs.Action.{actionOf}
-use Rattle.semantics.specs.declared.Configuration.{Configuration}
 use Rattle.semantics.specs.declared.Mode.{Mode}
 use Rattle.semantics.specs.declared.Mode.the-variants.{Running, Idle, Stopped}
 use Rattle.semantics.specs.declared.State.{State}
 use Rattle.semantics.specs.declared.Stepped.{Stepped}
+use Rattle.semantics.specs.Setup.{Setup}
 use Rattle.semantics.specs.Operands.{placeOf, lowered, wordAt, spOf}
 use Rattle.semantics.specs.Execute.{codeAddress}
-use Rattle.semantics.specs.Step.{requested, entryDue, entryCost, behind, actedOf, stepOf}
+use Rattle.semantics.specs.Step.{requested, entryDue, behind, actedOf, stepOf}
 use Rattle.semantics.specs.Run.{recordAt, runOf}
 use Rattle.semantics.specs.Reset.{IsReset}
 use Rattle.certificate.specs.Layout.{Certificate}
@@ -176,11 +178,11 @@ pub record Schedule (schedule : List ℕ) : Type 0 where
 abbrev pub costHere : List ℕ → State → ℕ
 costHere image s = cyclesOf (getD image (s .pc .0) 0)
 
-module _ (C : Certificate) where
-  -- demand 3 speaks of machines that got the certificate's number of cycles for an entry (request 03)
-  abbrev pub configurationOf : Configuration
-  configurationOf = record { «entry_cost» = C .entryCost }
+-- demand 3 speaks of machines of a part (request 04) that got the certificate's number of cycles for an entry (request 03)
+abbrev pub setupFor : Part → Certificate → Setup
+setupFor P C = record { part = P; entryCost = C .entryCost }
 
+module _ (C : Certificate) where
   -- CALL opens the routine that its target's entry names, with the address behind CALL and 0 cycles; RET or IRET closes the innermost
   abbrev pub transferred : Transfer → RomAddr → State → Open → Open
   transferred stays next s′ o = o
@@ -201,17 +203,9 @@ module _ (C : Certificate) where
 module _ (C : Certificate) (image : List ℕ) where
   -- the open routines with what the step costs, before one closes: an entry opens 2 with the address it pushes and its own cost
   abbrev pub spent : Event → State → Open → Open
-  spent entered s o = opening (record { routine = 2; returnTo = s .pc .0; cycles = entryCost (configurationOf C); opener = byInterrupt }) o
+  spent entered s o = opening (record { routine = 2; returnTo = s .pc .0; cycles = C .entryCost; opener = byInterrupt }) o
   spent waited s o = o
   spent (executed act next) s o = charge (costHere image s) o
-
-  -- the step that a record makes
-  abbrev pub stepped : Monitored → List ℕ → Stepped
-  stepped m rec = stepOf (configurationOf C) image (m .state) rec
-
-  -- the state behind the act of a step, before it settles: where the step goes, whom CALL opens and SP are read there
-  abbrev pub actedState : Monitored → List ℕ → State
-  actedState m rec = actedOf (configurationOf C) image (m .state) rec .state
 
   -- a step that is not stopped, with its act to a, and settled in s′; a stopped step leaves all as it was
   abbrev pub afterStep : ℕ → Event → Monitored → State → State → Monitored
@@ -219,9 +213,18 @@ module _ (C : Certificate) (image : List ℕ) where
       record { state = s′; frames = moved C e a (spent e (m .state) (m .frames)); loaded = loadedBy C e (m .loaded) }
   afterStep (suc n) e m a s′ = m
 
+module _ (P : Part) (C : Certificate) (image : List ℕ) where
+  -- the step that a record makes
+  abbrev pub stepped : Monitored → List ℕ → Stepped
+  stepped m rec = stepOf (setupFor P C) image (m .state) rec
+
+  -- the state behind the act of a step, before it settles: where the step goes, whom CALL opens and SP are read there
+  abbrev pub actedState : Monitored → List ℕ → State
+  actedState m rec = actedOf (setupFor P C) image (m .state) rec .state
+
   unfoldable pub monitorStep : Monitored → List ℕ → Monitored
   monitorStep m rec =
-      afterStep (stepped m rec .stop) (eventOf image (m .state) rec) m (actedState m rec) (stepped m rec .state)
+      afterStep C image (stepped m rec .stop) (eventOf image (m .state) rec) m (actedState m rec) (stepped m rec .state)
 
 -- What each step must show --
 
@@ -244,8 +247,8 @@ Within C [] = Unit {0}
 Within C (f ∷ fs) = (f .routine ≢ 1 → f .cycles ≤ C .bound (f .routine)) × Within C fs
 
 module _ (C : Certificate) (image : List ℕ) where
-  -- every pointer of the instruction, on the registers after the requests (PUSH reads its pointer after lowering SP); LDC's address is in ROM;
-  -- computed jumps and calls never run
+  -- every pointer of the instruction, on the registers after the requests (PUSH reads its pointer after lowering SP), where rec are the step's inputs;
+  -- LDC's address is in ROM; computed jumps and calls never run
   abbrev pub PointersRight : ℕ → List ℕ → List ℕ → Action → Type 0
   PointersRight t regs rec (Action.Binary op d s) = InTable C t regs rec d × InTable C t regs rec s
   PointersRight t regs rec (Action.Modify op d) = InTable C t regs rec d
@@ -267,11 +270,12 @@ module _ (C : Certificate) (image : List ℕ) where
   PointersRight t regs rec Action.Stop = Unit {0}
   PointersRight t regs rec Action.Nop = Unit {0}
 
+module _ (P : Part) (C : Certificate) (image : List ℕ) where
   -- an instruction begins at an address whose certificate entry (routine 0 is none) names the innermost open routine
   pub record InstructionRight (t : ℕ) (m : Monitored) (rec : List ℕ) (act : Action) (pc′ : ℕ) : Type 0 where
     pub named : 1 ≤ C .routine (m .state .pc .0)
     pub begins : C .routine (m .state .pc .0) ≡ m .frames .inner .routine
-    pub pointers : PointersRight t (requested (m .state) rec) rec act
+    pub pointers : PointersRight C image t (requested (m .state) rec) (inputsOf (P .grounds) rec) act
     pub returning : ReturnsRight (transferOf act) (m .frames .inner) pc′
 
   abbrev pub EventRight : (ℕ → ℕ) → Monitored → List ℕ → Event → ℕ → Type 0
@@ -281,11 +285,11 @@ module _ (C : Certificate) (image : List ℕ) where
 
   -- one step: it does not stop; its event is right; SP, once loaded, lies between floor and top; cycles are within bounds
   pub record StepRight (tables : ℕ → ℕ) (m : Monitored) (rec : List ℕ) : Type 0 where
-    pub goes : stepped C image m rec .stop ≡ 0
-    pub event : EventRight tables m rec (eventOf image (m .state) rec) (actedState C image m rec .pc .0)
+    pub goes : stepped P C image m rec .stop ≡ 0
+    pub event : EventRight tables m rec (eventOf image (m .state) rec) (actedState P C image m rec .pc .0)
     pub stack :
         loadedBy C (eventOf image (m .state) rec) (m .loaded) ≡ true
-        → (C .floor ≤ spOf (actedState C image m rec .regs)) × (spOf (actedState C image m rec .regs) ≤ C .top)
+        → (C .floor ≤ spOf (actedState P C image m rec .regs)) × (spOf (actedState P C image m rec .regs) ≤ C .top)
     pub within :
         Within C (spent C image (eventOf image (m .state) rec) (m .state) (m .frames) .inner ∷ spent C image (eventOf image (m .state) rec) (m .state) (m .frames) .outer)
 
@@ -293,12 +297,12 @@ module _ (C : Certificate) (image : List ℕ) where
   abbrev pub Walk : ℕ → (ℕ → ℕ) → List ℕ → ℕ → Monitored → Type 0
   Walk zero tables schedule i m = Unit {0}
   Walk (suc k) tables schedule i m =
-      StepRight tables m (recordAt schedule i) × Walk k tables schedule (i + 1) (monitorStep C image m (recordAt schedule i))
+      StepRight tables m (recordAt schedule i) × Walk k tables schedule (i + 1) (monitorStep P C image m (recordAt schedule i))
 
   -- the run does every record and no step stops, and every step is right
   pub record RunRight (tables : ℕ → ℕ) (s : State) (schedule : List ℕ) : Type 0 where
-    pub steps : runOf (configurationOf C) image s schedule .steps ≡ length schedule / recordLength
-    pub stop : runOf (configurationOf C) image s schedule .stop ≡ 0
+    pub steps : runOf (setupFor P C) image s schedule .steps ≡ length schedule / recordLength
+    pub stop : runOf (setupFor P C) image s schedule .stop ≡ 0
     pub walk : Walk (length schedule / recordLength) tables schedule 0 (fromReset s)
 
   -- one table for each ROM address, chosen before the bytes that reset leaves open and before the schedule

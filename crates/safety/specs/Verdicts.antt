@@ -1,4 +1,4 @@
--- The verdict on an image and a certificate: 7 for wrong lengths, then rule 20, then the lowest address and there the lowest number. Below it,
+-- The verdict on an image and a certificate, for a ROM of rom bytes (request 04): 7 for wrong lengths, then rule 20, then the lowest address and there the lowest number. Below it,
 -- what a verdict reports of the rules. The verdict goes by a list of rules at each address, so that S`Formerly` can say what it was with others.
 -- Assumes nothing.
 use Prim.Native.Nat.{ℕ, zero, suc, _+_, _%_, _<_}
@@ -13,7 +13,7 @@ use Rattle.base.specs.Choice.{pick}
 use Rattle.base.specs.Outcome.{Outcome}
 use Rattle.base.specs.Outcome.Outcome.{value, refused}
 use Rattle.base.specs.Formula.{Formula, Holds, decide, eq, _&_, _‖_}
-use Rattle.base.specs.Lengths.{romLength, shortCertificateLength, longCertificateLength, isImageLength, isCertificateLength}
+use Rattle.base.specs.Lengths.{shortCertificateLength, longCertificateLength, isCertificateLength}
 use Rattle.isa.specs.declared.FlagSet.{FlagSet}
 use Rattle.isa.specs.declared.Instruction.{Instruction}
 use Rattle.isa.specs.Map.{cyclesOf}
@@ -54,9 +54,9 @@ pub record Rule : Type 0 where
   pub formula : Formula
 
 -- the rules on an instruction at an address, lowest number first: S its summary, next the address behind it, r24 rule 24
-unfoldable pub rulesWith : Formula → Certificate → ℕ → Summary → ℕ → ℕ → List Rule
-rulesWith r24 C a S next cost =
-    record { number = 21; formula = rule21 C a S next }
+unfoldable pub rulesWith : Formula → ℕ → Certificate → ℕ → Summary → ℕ → ℕ → List Rule
+rulesWith r24 rom C a S next cost =
+    record { number = 21; formula = rule21 C rom a S next }
     ∷ record { number = 22; formula = rule22 C a S }
     ∷ record { number = 23; formula = rule23 C a S }
     ∷ record { number = 24; formula = r24 }
@@ -65,12 +65,12 @@ rulesWith r24 C a S next cost =
     ∷ record { number = 27; formula = rule27 C a S cost next }
     ∷ []
 
-abbrev pub rulesOn : Certificate → ℕ → Summary → ℕ → ℕ → List Rule
-rulesOn C a S next cost = rulesWith (rule24 C a S) C a S next cost
+abbrev pub rulesOn : ℕ → Certificate → ℕ → Summary → ℕ → ℕ → List Rule
+rulesOn rom C a S next cost = rulesWith (rule24 C rom a S) rom C a S next cost
 
 -- the rules at an address with an entry
-abbrev pub rulesAt : Certificate → List ℕ → ℕ → List Rule
-rulesAt C image a = rulesOn C a (summaryAt C image a) (nextAt image a) (costAt image a)
+abbrev pub rulesAt : ℕ → Certificate → List ℕ → ℕ → List Rule
+rulesAt rom C image a = rulesOn rom C a (summaryAt C image a) (nextAt image a) (costAt image a)
 
 -- the first rule of a list that is broken, or 0
 unfoldable pub firstBroken : List Rule → ℕ
@@ -79,14 +79,14 @@ firstBroken (r ∷ rs) = elim (decide (r .formula)) [ true ↦ firstBroken rs | 
 
 -- The verdict by the rules at each address --
 
--- rules at the addresses of an image under a certificate
+-- rules at the addresses of an image in a ROM of so many bytes, under a certificate
 abbrev pub Rules : Type 0
-Rules = Certificate → List ℕ → ℕ → List Rule
+Rules = ℕ → Certificate → List ℕ → ℕ → List Rule
 
-module _ (rules : Rules) (C : Certificate) (image : List ℕ) where
+module _ (rules : Rules) (rom : ℕ) (C : Certificate) (image : List ℕ) where
   -- the lowest number that is broken at an address; where no instruction starts, none is
   unfoldable pub numberBy : ℕ → ℕ
-  numberBy a = elim (eqb (C .routine a) 0) [ true ↦ 0 | false ↦ firstBroken (rules C image a) ]
+  numberBy a = elim (eqb (C .routine a) 0) [ true ↦ 0 | false ↦ firstBroken (rules rom C image a) ]
 
   -- the n addresses from a on
   unfoldable pub scanBy : ℕ → ℕ → Verdict
@@ -94,24 +94,24 @@ module _ (rules : Rules) (C : Certificate) (image : List ℕ) where
   scanBy (suc n) a = elim (eqb (numberBy a) 0) [ true ↦ scanBy n (a + 1) | false ↦ Refused (numberBy a) (romAddr a) ]
 
   unfoldable pub verdictOnBy : Verdict
-  verdictOnBy = elim (decide (rule20 C image)) [ true ↦ scanBy romLength 0 | false ↦ Refused 20 (romAddr 0) ]
+  verdictOnBy = elim (decide (rule20 C rom image)) [ true ↦ scanBy rom 0 | false ↦ Refused 20 (romAddr 0) ]
 
-unfoldable pub verdictBy : Rules → List ℕ → List ℕ → Verdict
-verdictBy rules image cert =
-    pick (isImageLength (length image) && isCertificateLength (length cert)) (verdictOnBy rules (certificateOf cert) image)
+unfoldable pub verdictBy : Rules → ℕ → List ℕ → List ℕ → Verdict
+verdictBy rules rom image cert =
+    pick (eqb (length image) rom && isCertificateLength (length cert)) (verdictOnBy rules rom (certificateOf cert) image)
     (Refused 7 (romAddr 0))
 
-abbrev pub numberAt : Certificate → List ℕ → ℕ → ℕ
+abbrev pub numberAt : ℕ → Certificate → List ℕ → ℕ → ℕ
 numberAt = numberBy rulesAt
 
-abbrev pub scan : Certificate → List ℕ → ℕ → ℕ → Verdict
+abbrev pub scan : ℕ → Certificate → List ℕ → ℕ → ℕ → Verdict
 scan = scanBy rulesAt
 
-abbrev pub verdictOn : Certificate → List ℕ → Verdict
+abbrev pub verdictOn : ℕ → Certificate → List ℕ → Verdict
 verdictOn = verdictOnBy rulesAt
 
 -- the checker's verdict
-abbrev pub verdictOf : List ℕ → List ℕ → Verdict
+abbrev pub verdictOf : ℕ → List ℕ → List ℕ → Verdict
 verdictOf = verdictBy rulesAt
 
 -- What a verdict reports: accepted, that no rule is broken; refused n a, that n is the first broken rule and a its address --
@@ -122,31 +122,31 @@ Breaks [] n = ⊥
 Breaks (r ∷ rs) n = ((r .number ≡ n) × (Holds (r .formula) → ⊥)) ⊎ Breaks rs n
 
 -- image and certificate have their lengths
-abbrev pub lengthsRight : List ℕ → List ℕ → Formula
-lengthsRight image cert = eq (length image) romLength & (eq (length cert) shortCertificateLength ‖ eq (length cert) longCertificateLength)
+abbrev pub lengthsRight : ℕ → List ℕ → List ℕ → Formula
+lengthsRight rom image cert = eq (length image) rom & (eq (length cert) shortCertificateLength ‖ eq (length cert) longCertificateLength)
 
 -- the rules on the whole, which report 0000H: 7 the lengths, and 20
-abbrev pub rulesOnWhole : List ℕ → List ℕ → List Rule
-rulesOnWhole image cert =
-    record { number = 7; formula = lengthsRight image cert }
-    ∷ record { number = 20; formula = rule20 (certificateOf cert) image }
+abbrev pub rulesOnWhole : ℕ → List ℕ → List ℕ → List Rule
+rulesOnWhole rom image cert =
+    record { number = 7; formula = lengthsRight rom image cert }
+    ∷ record { number = 20; formula = rule20 (certificateOf cert) rom image }
     ∷ []
 
 -- rule n is broken at address a: 7 and 20 at 0000H; 21 to 27 at an address with an entry
-abbrev pub Broken : List ℕ → List ℕ → ℕ → ℕ → Type 0
-Broken image cert n a =
-    ((a ≡ 0) × Breaks (rulesOnWhole image cert) n)
-    ⊎ ((a < romLength) × (certificateOf cert .routine a ≢ 0) × Breaks (rulesAt (certificateOf cert) image a) n)
+abbrev pub Broken : ℕ → List ℕ → List ℕ → ℕ → ℕ → Type 0
+Broken rom image cert n a =
+    ((a ≡ 0) × Breaks (rulesOnWhole rom image cert) n)
+    ⊎ ((a < rom) × (certificateOf cert .routine a ≢ 0) × Breaks (rulesAt rom (certificateOf cert) image a) n)
 
 -- the lowest address counts, and there the lowest number
-abbrev pub Reports : List ℕ → List ℕ → Verdict → Type 0
-Reports image cert Accepted = (n a : ℕ) → Broken image cert n a → ⊥
-Reports image cert (Refused n a) =
-    Broken image cert n (a .0)
-    × ((k : ℕ) → k < n → Broken image cert k (a .0) → ⊥)
-    × ((b : ℕ) → b < a .0 → (k : ℕ) → Broken image cert k b → ⊥)
+abbrev pub Reports : ℕ → List ℕ → List ℕ → Verdict → Type 0
+Reports rom image cert Accepted = (n a : ℕ) → Broken rom image cert n a → ⊥
+Reports rom image cert (Refused n a) =
+    Broken rom image cert n (a .0)
+    × ((k : ℕ) → k < n → Broken rom image cert k (a .0) → ⊥)
+    × ((b : ℕ) → b < a .0 → (k : ℕ) → Broken rom image cert k b → ⊥)
 
 -- a verdict that reports what is so, and the only one that does
-pub record Exact (image cert : List ℕ) (v : Verdict) : Type 0 where
-  pub reports : Reports image cert v
-  pub only : (w : Verdict) → Reports image cert w → w ≡ v
+pub record Exact (rom : ℕ) (image cert : List ℕ) (v : Verdict) : Type 0 where
+  pub reports : Reports rom image cert v
+  pub only : (w : Verdict) → Reports rom image cert w → w ≡ v

@@ -5,4 +5,5 @@ pub mod Refusals
 pub mod Reset
 pub mod ResetLaws
 pub mod Run
+pub mod Setup
 pub mod Step

@@ -4,7 +4,7 @@ use Prim.Native.Nat.{ℕ}
 use Rattle.isa.specs.Flags.{flagIn}
 use Rattle.decode.specs.Decode.{decodeAt}
 use Rattle.action.specs.Action.{actionOf}
-use Rattle.chip.specs.Registers.{keptBits, mappedOf, loadOf, writtenOf, keptOf, storeOf}
+use Rattle.chip.specs.Registers.{keptBits, mappedOf, groundedNow, loadOf, writtenOf, keptOf, storeOf}
 use Rattle.chip.specs.Interrupts.{interruptsEnabled, setInterruptsOf, pendingEdge, pendingAny, raiseOf, postOf}
 use Rattle.alu.specs.Flags.{carry, zeroFlag, signFlag, overflowFlag, flagsByte, updated, update, conditionOn, condition}
 use Rattle.alu.specs.Operations.{biased, overflows, addition, subtraction, logical, operate, stores, increment, decrement, rotation, shiftRight, modify}
@@ -14,7 +14,7 @@ use Rattle.semantics.specs.Execute.{callOf, callPairOf, returnOf, interr
 use Rattle.semantics.specs.Step.{actingRequests, entryDue, finishOf, enterOf, afterDecode, instructionAct, modeAct, actAfterRequests, actedOf, settled, stepOf}
 
 unfoldable registersOpened : ℕ
-unfolding decodeAt actionOf keptBits mappedOf loadOf writtenOf keptOf storeOf interruptsEnabled setInterruptsOf pendingEdge pendingAny raiseOf postOf
+unfolding decodeAt actionOf keptBits mappedOf groundedNow loadOf writtenOf keptOf storeOf interruptsEnabled setInterruptsOf pendingEdge pendingAny raiseOf postOf
 registersOpened = 0
 
 unfoldable flagsOpened : ℕ

@@ -22,7 +22,7 @@ use Rattle.decode.specs.Decode.{decodeAt}
 use Rattle.decode.specs.Refusals.{decode-number}
 use Rattle.action.specs.declared.Action.{Action}
 use Rattle.chip.specs.Registers.{mappedOf, loadOf}
-use Rattle.semantics.specs.declared.Configuration.{Configuration}
+use Rattle.semantics.specs.Setup.{Setup}
 use Rattle.semantics.specs.declared.Mode.{Mode}
 use Rattle.semantics.specs.declared.Mode.the-variants.{Running, Idle, Stopped}
 use Rattle.semantics.specs.declared.Next.{Next}
@@ -32,7 +32,7 @@ use Rattle.semantics.specs.declared.Ran.{Ran}
 use Rattle.semantics.specs.Operands.{placeOf, fetchOf, withFlags, lowered, raised, storeTop, pushOf, pushAddress, wordAt, wordMapped, spOf, flagsOf}
 use Rattle.semantics.specs.Execute.{codeAddress, Executed, goesOn, inRom, leaves, binaryOf, modifyOf, loadInto, pushOperand, popOperand, loadCodeOf, loadCodeStepOf}
 use Rattle.semantics.specs.Execute.{jumpOf, jumpPairOf, callOf, callPairOf, returnOf, interruptReturnOf, carryOf, stopOf, executeOf}
-use Rattle.semantics.specs.Step.{Acted, entryDue, finishOf, enterOf, entryCost, afterDecode, instructionAct, modeAct, actAfterRequests, requested, actedOf, settled, validMachine, stepOf}
+use Rattle.semantics.specs.Step.{Acted, entryDue, finishOf, enterOf, afterDecode, instructionAct, modeAct, actAfterRequests, requested, actedOf, settled, validMachine, stepOf}
 use Rattle.semantics.specs.Run.{ran, recordAt, runFrom, runOf}
 
 -- 0, or a number by which an action is refused
@@ -130,9 +130,9 @@ module _ (s : State) where
   mode-stops Idle image regs rec = record { number = inl refl; unchanged = λ ne. absurd (ne refl) }
   mode-stops Stopped image regs rec = record { number = inl refl; unchanged = λ ne. absurd (ne refl) }
 
-  act-stops : (b : Bool) (K : Configuration) (image regs rec : List ℕ) → ActStops (actAfterRequests b K image s regs rec)
+  act-stops : (b : Bool) (K : Setup) (image regs rec : List ℕ) → ActStops (actAfterRequests b K image s regs rec)
   unfolding actAfterRequests
-  act-stops true K image regs rec = finish-stops _ false (entryCost K) (enter-ends image regs (s .pc))
+  act-stops true K image regs rec = finish-stops _ false (K .entryCost) (enter-ends image regs (s .pc))
   act-stops false K image regs rec = mode-stops (s .mode) image regs rec
 
   -- what settles keeps the number, and a refused act's state
@@ -145,18 +145,18 @@ module _ (s : State) where
   settled-not-seven a h = not-seven (h .number)
 
   -- 7 is for the configuration and for lengths alone
-  pub step-not-seven : (K : Configuration) (image rec : List ℕ) → (validMachine K image && eqb (length rec) recordLength) ≡ true → stepOf K image s rec .stop ≢ 7
+  pub step-not-seven : (K : Setup) (image rec : List ℕ) → (validMachine K image && eqb (length rec) recordLength) ≡ true → stepOf K image s rec .stop ≢ 7
   unfolding stepOf actedOf
-  step-not-seven K image rec e = rw e (settled-not-seven _ (act-stops (entryDue (requested s rec) (s .mode)) K image (requested s rec) rec))
+  step-not-seven K image rec e = rw e (settled-not-seven _ (act-stops (entryDue (requested s rec) (s .mode)) K image (requested s rec) _))
 
-  pub step-stops : (K : Configuration) (image rec : List ℕ) → Stops s (stepOf K image s rec .state) (stepOf K image s rec .stop)
+  pub step-stops : (K : Setup) (image rec : List ℕ) → Stops s (stepOf K image s rec .state) (stepOf K image s rec .stop)
   unfolding stepOf actedOf
   step-stops K image rec =
       pick-has (λ (r : Stepped). Stops s (r .state) (r .stop)) (validMachine K image && eqb (length rec) recordLength) _ _
-      (λ _. settled-stops _ (act-stops (entryDue (requested s rec) (s .mode)) K image (requested s rec) rec))
+      (λ _. settled-stops _ (act-stops (entryDue (requested s rec) (s .mode)) K image (requested s rec) _))
       (λ _. record { number = inr (inl refl); unchanged = λ _. refl })
 
-run-from-number : (k : ℕ) (K : Configuration) (image schedule : List ℕ) (i : ℕ) (s : State) → StepNumber (runFrom k K image schedule i s .stop)
+run-from-number : (k : ℕ) (K : Setup) (image schedule : List ℕ) (i : ℕ) (s : State) → StepNumber (runFrom k K image schedule i s .stop)
 unfolding runFrom
 run-from-number zero K image schedule i s = inl refl
 run-from-number (suc k) K image schedule i s = on (eqb (r .stop) 0) (run-from-number k K image schedule (i + 1) (r .state))
@@ -169,14 +169,14 @@ run-from-number (suc k) K image schedule i s = on (eqb (r .stop) 0) (run-from-nu
     on true rest = rest
     on false rest = step-stops s K image (recordAt schedule i) .number
 
-pub run-number : (K : Configuration) (image schedule : List ℕ) (s : State) → StepNumber (runOf K image s schedule .stop)
+pub run-number : (K : Setup) (image schedule : List ℕ) (s : State) → StepNumber (runOf K image s schedule .stop)
 unfolding runOf
 run-number K image schedule s =
     pick-has (λ (r : Ran). StepNumber (r .stop)) (validMachine K image && eqb (length schedule % recordLength) 0) _ _
     (λ _. run-from-number (length schedule / recordLength) K image schedule 0 s) (λ _. inr (inl refl))
 
 -- a run over the records that a schedule has, on what is valid
-run-from-not-seven : (k : ℕ) (K : Configuration) (image schedule : List ℕ) (i : ℕ) (s : State) → validMachine K image ≡ true → i + k ≤ length schedule / recordLength
+run-from-not-seven : (k : ℕ) (K : Setup) (image schedule : List ℕ) (i : ℕ) (s : State) → validMachine K image ≡ true → i + k ≤ length schedule / recordLength
     → runFrom k K image schedule i s .stop ≢ 7
 unfolding runFrom
 run-from-not-seven zero K image schedule i s e h = omega arith
@@ -195,7 +195,7 @@ run-from-not-seven (suc k) K image schedule i s e h =
     on false rest = step-not-seven s K image (recordAt schedule i) (rw (e, eqb-yes whole))
 
 -- so a run is refused by 7 only where the configuration or a length is wrong
-pub run-seven : (K : Configuration) (image schedule : List ℕ) (s : State) → runOf K image s schedule .stop ≡ 7
+pub run-seven : (K : Setup) (image schedule : List ℕ) (s : State) → runOf K image s schedule .stop ≡ 7
     → (validMachine K image && eqb (length schedule % recordLength) 0) ≡ false
 unfolding runOf
 run-seven K image schedule s = on (validMachine K image) (eqb (length schedule % recordLength) 0) refl

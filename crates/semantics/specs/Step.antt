@@ -11,18 +11,19 @@ use Rattle.base.specs.Addresses.{romAddr}
 use Rattle.base.specs.Choice.{pick}
 use Rattle.base.specs.Outcome.{Outcome}
 use Rattle.base.specs.Outcome.Outcome.{value, refused}
-use Rattle.base.specs.Lengths.{isEntryCost, isImageLength, recordLength}
+use Rattle.base.specs.Lengths.{isEntryCost, recordLength}
 use Rattle.isa.specs.declared.FlagSet.{FlagSet}
 use Rattle.isa.specs.declared.Instruction.{Instruction}
 use Rattle.isa.specs.Map.{cyclesOf}
 use Rattle.decode.specs.Decode.{decodeAt}
 use Rattle.action.specs.Action.{actionOf}
+use Rattle.chip.specs.Registers.{inputsOf}
 use Rattle.chip.specs.Interrupts.{interruptsEnabled, setInterruptsOf, pendingAny, pendingEdge, postOf}
-use Rattle.semantics.specs.declared.Configuration.{Configuration}
 use Rattle.semantics.specs.declared.Mode.{Mode}
 use Rattle.semantics.specs.declared.Mode.the-variants.{Running, Idle, Stopped}
 use Rattle.semantics.specs.declared.State.{State}
 use Rattle.semantics.specs.declared.Stepped.{Stepped}
+use Rattle.semantics.specs.Setup.{Setup}
 use Rattle.semantics.specs.Operands.{pushOf, pushAddress, flagsOf}
 use Rattle.semantics.specs.Execute.{Executed, goesOn, executeOf}
 
@@ -65,12 +66,9 @@ finishOf s e retired cost =
     (record { state = movedTo s (e .regs) (e .next .pc) (e .next .mode) cost; stop = 0; retired = retired; elapsed = cost })
     (refusedAct s (e .next .stop))
 
--- the interrupt vector, and the cycles of an entry (request 03)
+-- the interrupt vector
 abbrev pub vectorOf : List ℕ → ℕ
 vectorOf image = getD image 0 0 * 256 + getD image 1 0
-
-abbrev pub entryCost : Configuration → ℕ
-entryCost K = K .«entry_cost»
 
 -- an interrupt entry pushes the program counter, low half first, and FLAGS as it then is; SYM.2 becomes 0; the vector is loaded
 unfoldable pub enterOf : List ℕ → List ℕ → RomAddr → Executed
@@ -83,7 +81,7 @@ enterOf image regs pc =
 abbrev pub behind : RomAddr → ℕ → RomAddr
 behind pc n = romAddr ((pc .0 + n) % 65536)
 
--- the instruction that was decoded at the program counter, on the registers after the requests
+-- the instruction that was decoded at the program counter, on the registers after the requests; rec are the step's inputs, here and below
 unfoldable pub afterDecode : Outcome (Instruction × ℕ × FlagSet) → List ℕ → State → List ℕ → List ℕ → Acted
 afterDecode (value d) image s regs rec =
     let next = behind (s .pc) (d .1) in
@@ -107,8 +105,8 @@ modeAct Running image s regs rec = instructionAct image s regs rec
 modeAct Idle image s regs rec = waitingAct s regs idleCycles
 modeAct Stopped image s regs rec = waitingAct s regs 0
 
-unfoldable pub actAfterRequests : Bool → Configuration → List ℕ → State → List ℕ → List ℕ → Acted
-actAfterRequests true K image s regs rec = finishOf s (enterOf image regs (s .pc)) false (entryCost K)
+unfoldable pub actAfterRequests : Bool → Setup → List ℕ → State → List ℕ → List ℕ → Acted
+actAfterRequests true K image s regs rec = finishOf s (enterOf image regs (s .pc)) false (K .entryCost)
 actAfterRequests false K image s regs rec = modeAct (s .mode) image s regs rec
 
 -- the registers after the requests of a record
@@ -116,18 +114,19 @@ abbrev pub requested : State → List ℕ → List ℕ
 requested s rec = postOf (s .regs) (actingRequests (s .mode) (getD rec 0 0))
 
 -- the first half of a step, its act: what its requests, entry, waiting or instruction do
-unfoldable pub actedOf : Configuration → List ℕ → State → List ℕ → Acted
-actedOf K image s rec = actAfterRequests (entryDue (requested s rec) (s .mode)) K image s (requested s rec) rec
+unfoldable pub actedOf : Setup → List ℕ → State → List ℕ → Acted
+actedOf K image s rec =
+    actAfterRequests (entryDue (requested s rec) (s .mode)) K image s (requested s rec) (inputsOf (K .part .grounds) rec)
 
 -- the second half: what settles behind the act of a step from s. Nothing does
 unfoldable pub settled : State → Acted → Stepped
 settled s a = record { state = a .state; stop = a .stop }
 
--- what a machine is given: an image, and the cycles of an entry, 0 to 63 (request 03)
-abbrev pub validMachine : Configuration → List ℕ → Bool
-validMachine K image = isEntryCost (entryCost K) && isImageLength (length image)
+-- what a machine is given: the cycles of an entry, 0 to 63 (request 03), and an image of its part's length (request 04)
+abbrev pub validMachine : Setup → List ℕ → Bool
+validMachine K image = isEntryCost (K .entryCost) && eqb (length image) (K .part .rom)
 
 -- one step: 7 for an entry's cycles above 63, and for an image or a record of another length
-unfoldable pub stepOf : Configuration → List ℕ → State → List ℕ → Stepped
+unfoldable pub stepOf : Setup → List ℕ → State → List ℕ → Stepped
 stepOf K image s rec =
     pick (validMachine K image && eqb (length rec) recordLength) (settled s (actedOf K image s rec)) (refuse s 7)

@@ -1,5 +1,6 @@
 // The types of the machine: its state, and what a step, a run and an instruction leave. Their meaning is in specs/; the code is in the crates
 // from `operands` to `machine`.
+use base::Profile;
 use base::RegAddr;
 use base::RomAddr;
 use chip::Registers;
@@ -32,8 +33,9 @@ pub struct Ran {
     pub stop: u8,
 }
 
-// What a machine is given beside its image: the cycles of an interrupt entry.
+// What a machine is given beside its image: its part, and the cycles of an interrupt entry.
 pub struct Configuration {
+    pub profile: Profile,
     pub entry_cost: u8,
 }
 

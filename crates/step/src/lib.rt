@@ -7,9 +7,11 @@ ghost use Rattle.isa.specs.Answer.{decoded};
 ghost use Rattle.base.specs.Choice.{pick};
 ghost use Rattle.semantics.specs.declared.State.{State};
 ghost use Rattle.semantics.specs.Step.{afterDecode, instructionAct, modeAct, actAfterRequests, actedOf, settled};
+ghost use Rattle.semantics.specs.Setup.{setupOf};
 ghost use Rattle.entry.specs.InPlace.{stateWith, acted, rebuilt, stepped};
 use base::RomAddr;
 use chip::Inputs;
+use chip::Record;
 use chip::Registers;
 use entry::Core;
 use entry::Ended;
@@ -73,7 +75,7 @@ fn after_requests(
     regs: &mut Registers,
     rec: &Inputs,
 ) -> Ended
-    ensures { λ r. ⌜ ((saved : List ℕ) → rebuilt saved (now (regs .exit)) r ≡ actAfterRequests due configuration (now (image .entry)) (stateWith saved s) (now (regs .entry)) (now (rec .entry))) ⌝ }
+    ensures { λ r. ⌜ ((saved : List ℕ) → rebuilt saved (now (regs .exit)) r ≡ actAfterRequests due (setupOf configuration) (now (image .entry)) (stateWith saved s) (now (regs .entry)) (now (rec .entry))) ⌝ }
 {
     if due {
         return entry::enter(configuration, image, s, regs);
@@ -98,16 +100,18 @@ fn act(
     image: &[u8],
     s: Core,
     regs: &mut Registers,
-    rec: &Inputs,
+    rec: &Record,
 ) -> Ended
-    ensures { λ r. ⌜ acted (now (regs .exit)) r ≡ actedOf configuration (now (image .entry)) (stateWith (now (regs .entry)) s) (now (rec .entry)) ⌝ }
+    ensures { λ r. ⌜ acted (now (regs .exit)) r ≡ actedOf (setupOf configuration) (now (image .entry)) (stateWith (now (regs .entry)) s) (now (rec .entry)) ⌝ }
 {
+    let profile = configuration.profile;
+    let inputs = chip::inputs(base::grounds(profile), *rec);
     let before = *regs;
     let mode = s.mode;
     let requests = rec[0];
     interrupts::post(regs, entry::acting_requests(mode, requests));
     let due = entry::entry_due(regs, mode);
-    let r = after_requests(due, configuration, image, s, regs, rec);
+    let r = after_requests(due, configuration, image, s, regs, &inputs);
     put_back(regs, before, r.stop == 0);
     r
 }
@@ -127,11 +131,11 @@ pub fn step_in_place(
     image: &[u8],
     s: Core,
     regs: &mut Registers,
-    rec: &Inputs,
+    rec: &Record,
 ) -> Ended
-    ensures step { λ r. ⌜ stepped (now (regs .exit)) r ≡ settled (stateWith (now (regs .entry)) s) (actedOf configuration (now (image .entry)) (stateWith (now (regs .entry)) s) (now (rec .entry))) ⌝ }
-    ensures retired { λ r. ⌜ r .retired ≡ actedOf configuration (now (image .entry)) (stateWith (now (regs .entry)) s) (now (rec .entry)) .retired ⌝ }
-    ensures elapsed { λ r. ⌜ r .elapsed ≡ actedOf configuration (now (image .entry)) (stateWith (now (regs .entry)) s) (now (rec .entry)) .elapsed ⌝ }
+    ensures step { λ r. ⌜ stepped (now (regs .exit)) r ≡ settled (stateWith (now (regs .entry)) s) (actedOf (setupOf configuration) (now (image .entry)) (stateWith (now (regs .entry)) s) (now (rec .entry))) ⌝ }
+    ensures retired { λ r. ⌜ r .retired ≡ actedOf (setupOf configuration) (now (image .entry)) (stateWith (now (regs .entry)) s) (now (rec .entry)) .retired ⌝ }
+    ensures elapsed { λ r. ⌜ r .elapsed ≡ actedOf (setupOf configuration) (now (image .entry)) (stateWith (now (regs .entry)) s) (now (rec .entry)) .elapsed ⌝ }
 {
     let a = act(configuration, image, s, regs, rec);
     settle(regs, a)

@@ -1,10 +1,10 @@
-// Compares `machine::step` with the cases of the file `steps.bin`. ROM is FFH where a case gives no byte.
-use base::IMAGE_LENGTH;
+// Compares `machine::step` with the cases of the file `steps.bin`. ROM, as long as the case's part has it, is FFH where a case gives no byte.
+use base::IMAGE_4K;
 use base::RECORD_LENGTH;
 use machine_states::CONFIGURATION_LENGTH;
 use machine_states::STATE_LENGTH;
 use machine_states::configuration_of;
-use machine_states::is_supported_configuration;
+use machine_states::image_for;
 use machine_states::is_supported_state;
 use machine_states::same_state;
 use machine_states::state_of;
@@ -30,20 +30,18 @@ const EXPECTED: usize = NUMBER + 1;
 
 const CASE_LENGTH: usize = EXPECTED + STATE_LENGTH;
 
-// The image of a case; bytes of the window past ROM's end are dropped.
-fn image_of(vector: &[u8], pc: u16, window: &[u8]) -> [u8; IMAGE_LENGTH] {
-    let mut image = [255u8; IMAGE_LENGTH];
+// The image of a case on the largest part; bytes of the window past ROM's end are dropped.
+fn image_of(vector: &[u8], pc: u16, window: &[u8]) -> [u8; IMAGE_4K] {
+    let mut image = [255u8; IMAGE_4K];
     put(&mut image, 0, vector);
     put(&mut image, pc as usize, window);
     image
 }
 
-// Whether the machine has the configuration and the states of a case.
+// Whether the machine has the states of a case.
 fn is_supported(case: &[u8; CASE_LENGTH]) -> bool {
     let bytes = &case[..];
-    is_supported_configuration(&bytes[CONFIGURATION..VECTOR])
-        & is_supported_state(&bytes[GIVEN..RECORD])
-        & is_supported_state(&bytes[EXPECTED..CASE_LENGTH])
+    is_supported_state(&bytes[GIVEN..RECORD]) & is_supported_state(&bytes[EXPECTED..CASE_LENGTH])
 }
 
 // The step of a case.
@@ -53,7 +51,8 @@ fn step_of(case: &[u8; CASE_LENGTH]) -> Stepped {
     let pc = given.pc;
     let image = image_of(&bytes[VECTOR..WINDOW], pc.0, &bytes[WINDOW..GIVEN]);
     let configuration = configuration_of(&bytes[CONFIGURATION..VECTOR]);
-    machine::step(configuration, &image, given, &bytes[RECORD..NUMBER])
+    let rom = image_for(configuration, &image);
+    machine::step(configuration, rom, given, &bytes[RECORD..NUMBER])
 }
 
 // Whether the step of a case leaves what the case expects.

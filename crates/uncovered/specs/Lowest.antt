@@ -10,7 +10,7 @@ use lib.ListN.{length}
 use lib.Dec.{eqb}
 use Rattle.base.specs.Addresses.{romAddr}
 use Rattle.base.specs.Choice.{pick, from}
-use Rattle.base.specs.Lengths.{romLength, isCertificateLength}
+use Rattle.base.specs.Lengths.{largestRom, isCertificateLength}
 use Rattle.certificate.specs.Layout.{Certificate, certificateOf}
 use Rattle.coverage.specs.Map.{marked}
 use Rattle.uncovered.specs.declared.Lowest.{Lowest}
@@ -32,7 +32,7 @@ firstOf f (a ∷ r) = pick (f a) (At (romAddr a)) (firstOf f r)
 -- of the addresses of ROM, ascending; 7 for a certificate of another length
 unfoldable pub lowestOf : List ℕ → List ℕ → Lowest
 lowestOf cert m =
-    pick (isCertificateLength (length cert)) (firstOf (unmarkedStart (certificateOf cert) m) (from romLength 0)) (Refused 7)
+    pick (isCertificateLength (length cert)) (firstOf (unmarkedStart (certificateOf cert) m) (from largestRom 0)) (Refused 7)
 
 -- what it means that an address is the lowest: it is a start, it is unmarked, and every lower start is marked
 pub record LowestStart (C : Certificate) (m : List ℕ) (a : ℕ) : Type 0 where

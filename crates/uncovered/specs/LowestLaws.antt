@@ -12,7 +12,7 @@ use Rattle.base.specs.Addresses.{romAddr}
 use Rattle.base.specs.Choice.{from}
 use Rattle.base.specs.ChoiceLaws.{pick-has}
 use Rattle.base.specs.Formula.{Formula, neg, eq, test, _&_, decide-true, decide-no, same?, le?}
-use Rattle.base.specs.Lengths.{romLength, isCertificateLength}
+use Rattle.base.specs.Lengths.{largestRom, isCertificateLength}
 use Rattle.base.specs.declared.RomAddr.{RomAddr}
 use Rattle.certificate.specs.Layout.{Certificate, certificateOf, certificateFrom, part}
 use Rattle.coverage.specs.Map.{marked}
@@ -75,9 +75,9 @@ module _ (C : Certificate) (m : List ℕ) (a : ℕ) where
       record { start = p .0; unmarked = not-eq-not .0 (p .1); lower = h }
 
 -- a start is an address of ROM: past it the entry's part is empty
-pub start-in-rom : (cert : List ℕ) (a : ℕ) → certificateOf cert .routine a ≢ 0 → a < romLength
+pub start-in-rom : (cert : List ℕ) (a : ℕ) → certificateOf cert .routine a ≢ 0 → a < largestRom
 unfolding certificateOf certificateFrom part
-start-in-rom cert a s = ⊎-elim (λ (l : romLength ≤ a). absurd (s (rw (part, le-ltb a romLength l)))) (λ (l : a < romLength). l) (le? romLength a)
+start-in-rom cert a s = ⊎-elim (λ (l : largestRom ≤ a). absurd (s (rw (part, le-ltb a largestRom l)))) (λ (l : a < largestRom). l) (le? largestRom a)
 
 module _ (cert m : List ℕ) where
   abbrev passes : ℕ → Bool
@@ -89,7 +89,7 @@ module _ (cert m : List ℕ) where
   Says AllMarked = (a : ℕ) → certificateOf cert .routine a ≢ 0 → marked m a ≡ true
   Says (Refused n) = (n ≡ 7) × (isCertificateLength (length cert) ≡ false)
 
-  first-says : (r : Lowest) → IsFirst passes romLength 0 r → Says r
+  first-says : (r : Lowest) → IsFirst passes largestRom 0 r → Says r
   first-says (At a) h =
       unmarked-lowest (certificateOf cert) m (a .0) (h .0) (λ b l. unmarked-not (certificateOf cert) m b (h .1 b zero-le l))
   first-says AllMarked h = λ a s. unmarked-not (certificateOf cert) m a (h a zero-le (start-in-rom cert a s)) s
@@ -98,8 +98,8 @@ module _ (cert m : List ℕ) where
   lowest-says : Says (lowestOf cert m)
   unfolding lowestOf
   lowest-says =
-      let r = firstOf passes (from romLength 0) in
-      pick-has Says (isCertificateLength (length cert)) r (Refused 7) (λ _. first-says r (first-is passes romLength 0))
+      let r = firstOf passes (from largestRom 0) in
+      pick-has Says (isCertificateLength (length cert)) r (Refused 7) (λ _. first-says r (first-is passes largestRom 0))
       (λ e. (refl, e))
 
   pub lowest-at : (a : RomAddr) → lowestOf cert m ≡ At a → LowestStart (certificateOf cert) m (a .0)
@@ -116,14 +116,14 @@ module _ (cert m : List ℕ) where
   unfolding lowestOf
   at-lowest a e h =
       rw e
-      (first-at passes romLength 0 a zero-le (start-in-rom cert a (h .start))
+      (first-at passes largestRom 0 a zero-le (start-in-rom cert a (h .start))
       (unmarked-yes (certificateOf cert) m a (h .start) (h .unmarked)) (λ b _ l. unmarked-no (certificateOf cert) m b (h .lower b l)))
 
   pub marked-all : isCertificateLength (length cert) ≡ true → ((a : ℕ) → certificateOf cert .routine a ≢ 0 → marked m a ≡ true) → lowestOf cert m ≡ AllMarked
   unfolding lowestOf
   marked-all e h =
       rw e
-      (first-none passes romLength 0 (λ b _ _. unmarked-no (certificateOf cert) m b (h b)))
+      (first-none passes largestRom 0 (λ b _ _. unmarked-no (certificateOf cert) m b (h b)))
 
   pub refused-length : isCertificateLength (length cert) ≡ false → lowestOf cert m ≡ Refused 7
   unfolding lowestOf

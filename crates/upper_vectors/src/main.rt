@@ -1,5 +1,5 @@
 // Converts old HEX lines to upper case, worked examples and the cases of the file upper.bin, and prints what differs.
-use base::IMAGE_LENGTH;
+use base::IMAGE_4K;
 use hex_line::Line;
 use hex_upper::Upper;
 use test_support::Case;
@@ -17,7 +17,7 @@ fn upper_number(answer: Upper) -> u8 {
 
 // The number by which the reader refuses a line as the first of an image, 0 where it is read.
 fn reader_number(line: &[u8]) -> u8 {
-    match hex_line::check_line(line, IMAGE_LENGTH, hex_line::new_reader()) {
+    match hex_line::check_line(line, IMAGE_4K, hex_line::new_reader()) {
         Line::Read(_) => 0,
         Line::Refused(fault) => hex_line::number(fault),
     }

@@ -1,4 +1,4 @@
--- The machine's entry cost is the certificate's.
+-- The part is the lent one, and the machine's entry cost the certificate's.
 use borrow.Author.Needs.{needs}
 use Rattle.checker.proofs.configuration_of.Statement.{statement}
 use Rattle.checker.proofs.configuration_of.Tie as tie

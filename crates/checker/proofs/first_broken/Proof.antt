@@ -51,7 +51,7 @@ returns c =
       c .before .before .rule26 .ensures,
       c .before .rule27 .ensures,
     ))
-    ∙ first-by-value (certificateOf (g .cert .now)) (g .a .0) (g .s) (g .next .0) (g .cost)
+    ∙ first-by-value (g .rom) (certificateOf (g .cert .now)) (g .a .0) (g .s) (g .next .0) (g .cost)
 
 pub first-broken-spec : {M : Type 1} → statement M
 first-broken-spec =

@@ -2,22 +2,23 @@
 use Rattle.safety.specs.Verdicts.{scanBy, scan}
 use Rattle.checker.proofs.Laws.{scan-on, scan-stop}
 use Rattle.certificate.specs.Layout.{certificateOf}
-use Rattle.base.specs.Lengths.{romLength}
 use Prim.Native.Nat.{ℕ, _-_, _≤_}
 use borrow.Author.Needs.{needs}
+use native.Mathlib.Nat.{sub-zero}
 use native.Mathlib.Omega.{arith}
-use mathlib.Core.Path.{_≡_, refl, sym, ap, _∙_}
+use mathlib.Core.Path.{_≡_, sym, ap, _∙_}
 use Rattle.checker.proofs.first_refusal.Statement.{statement}
 use Rattle.checker.proofs.first_refusal.Tie as tie
 
 abbrev Inv-loop : tie.InvT-loop
-Inv-loop image cert a₀ a = (a ≤ romLength) × (scan (certificateOf cert) image romLength 0 ≡ scan (certificateOf cert) image (romLength - a) a)
+Inv-loop rom image cert a₀ a =
+    (a ≤ rom) × (scan rom (certificateOf cert) image rom 0 ≡ scan rom (certificateOf cert) image (rom - a) a)
 
 abbrev μ-loop : tie.MeasureT-loop
-μ-loop image cert a₀ a = romLength - a
+μ-loop rom image cert a₀ a = rom - a
 
 loop-holds : tie.Need-loop-holds Inv-loop μ-loop
-loop-holds c = (omega arith, refl)
+loop-holds c = (omega arith, simp sub-zero)
 
 number-at-requires : tie.Need-number-at-requires Inv-loop μ-loop
 number-at-requires c κs = search needs
@@ -29,7 +30,7 @@ returns c =
     let C = certificateOf (g .cert .now) in
     let image = g .image .now in
     let o = c .before .before .before .loop in
-    rw (c .before .number-at .ensures) (sym (o .inv .1 ∙ scan-stop C image (o .a) (omega arith) (λ z. c .if1 .taken (c .before .number-at .ensures ∙ z))))
+    rw (c .before .number-at .ensures) (sym (o .inv .1 ∙ scan-stop (g .rom) C image (o .a) (omega arith) (λ z. c .if1 .taken (c .before .number-at .ensures ∙ z))))
 
 add-a : tie.Need-add-a Inv-loop μ-loop
 add-a c = omega arith
@@ -43,7 +44,7 @@ loop-again c =
     let C = certificateOf (g .cert .now) in
     let image = g .image .now in
     let o = c .before .before .before .loop in
-    (omega arith, o .inv .1 ∙ scan-on C image (o .a) (omega arith) (sym (c .before .number-at .ensures) ∙ c .if1 .left))
+    (omega arith, o .inv .1 ∙ scan-on (g .rom) C image (o .a) (omega arith) (sym (c .before .number-at .ensures) ∙ c .if1 .left))
 
 returns-2 : tie.Need-returns-2 Inv-loop μ-loop
 unfolding scanBy
@@ -52,8 +53,8 @@ returns-2 c =
     let C = certificateOf (g .cert .now) in
     let image = g .image .now in
     let o = c .before .loop in
-    let z : romLength - o .a ≡ 0 = omega arith in
-    sym (o .inv .1 ∙ ap (λ (n : ℕ). scan C image n (o .a)) z)
+    let z : g .rom - o .a ≡ 0 = omega arith in
+    sym (o .inv .1 ∙ ap (λ (n : ℕ). scan (g .rom) C image n (o .a)) z)
 
 pub first-refusal-spec : {M : Type 1} → statement M
 first-refusal-spec =

@@ -27,8 +27,8 @@ returns c =
     let a = g .a .0 in
     let k = c .before .cost-at .result in
     c .first-broken .ensures
-    ∙ ap (λ (i : Located). firstBroken (rulesOn C a (i .summary) (i .next .0) k)) (c .before .before .before .instruction-at .ensures)
-    ∙ ap (λ (n : ℕ). firstBroken (rulesOn C a (summaryAt C image a) (nextAt image a) n)) (c .before .cost-at .ensures)
+    ∙ ap (λ (i : Located). firstBroken (rulesOn (g .rom) C a (i .summary) (i .next .0) k)) (c .before .before .before .instruction-at .ensures)
+    ∙ ap (λ (n : ℕ). firstBroken (rulesOn (g .rom) C a (summaryAt C image a) (nextAt image a) n)) (c .before .cost-at .ensures)
 
 pub number-in-spec : {M : Type 1} → statement M
 number-in-spec =

@@ -1,4 +1,4 @@
--- RAM gives its byte, the seven input addresses the record's bytes, every other address its kept bits.
+-- RAM gives its byte, the seven input addresses the inputs' bytes, every other address its kept bits.
 use borrow.Author.Tests.{lt-ltb, le-ltb}
 use Rattle.base.specs.ChoiceLaws.{choose-miss}
 use Rattle.chip.specs.Registers.{loadOf}
@@ -31,14 +31,20 @@ element-copy-out-result-5 c = search needs
 element-copy-out-result-6 : tie.Need-element-copy-out-result-6
 element-copy-out-result-6 c = search needs
 
+element-copy-out-converted : tie.Need-element-copy-out-converted
+element-copy-out-converted c = search needs
+
+converted-requires : tie.Need-converted-requires
+converted-requires c κs = search needs
+
+element-copy-out-converted-2 : tie.Need-element-copy-out-converted-2
+element-copy-out-converted-2 c = search needs
+
+converted-requires-2 : tie.Need-converted-requires-2
+converted-requires-2 c κs = search needs
+
 element-copy-out-result-7 : tie.Need-element-copy-out-result-7
 element-copy-out-result-7 c = search needs
-
-element-copy-out-result-8 : tie.Need-element-copy-out-result-8
-element-copy-out-result-8 c = search needs
-
-element-copy-out-result-9 : tie.Need-element-copy-out-result-9
-element-copy-out-result-9 c = search needs
 
 kept-bits-requires : tie.Need-kept-bits-requires
 kept-bits-requires c κs = search needs
@@ -65,11 +71,11 @@ returns-6 c = simp (c .before .match .keys5)
 
 returns-7 : tie.Need-returns-7
 unfolding loadOf
-returns-7 c = simp (c .before .match .keys6)
+returns-7 c = simp (c .converted .ensures, c .before .before .match .keys6)
 
 returns-8 : tie.Need-returns-8
 unfolding loadOf
-returns-8 c = simp (c .before .match .keys7)
+returns-8 c = simp (c .converted2 .ensures, c .before .before .match .keys7)
 
 returns-9 : tie.Need-returns-9
 unfolding loadOf
@@ -87,9 +93,11 @@ load-spec =
     element-copy-out-result-4
     element-copy-out-result-5
     element-copy-out-result-6
+    element-copy-out-converted
+    converted-requires
+    element-copy-out-converted-2
+    converted-requires-2
     element-copy-out-result-7
-    element-copy-out-result-8
-    element-copy-out-result-9
     kept-bits-requires
     returns-2
     returns-3

@@ -14,10 +14,10 @@ use Rattle.hex_write.proofs.write_lines.Statement.{statement}
 use Rattle.hex_write.proofs.write_lines.Tie as tie
 
 abbrev Inv-loop : tie.InvT-loop
-Inv-loop image out₀ k₀ out k = (k ≤ recordCount) × (out ≡ records image k ++ drop (k * 44) out₀) × (length out ≡ length out₀)
+Inv-loop image out₀ records₀ k₀ out k = (k ≤ recordCount (length image)) × (out ≡ records image k ++ drop (k * 44) out₀) × (length out ≡ length out₀)
 
 abbrev μ-loop : tie.MeasureT-loop
-μ-loop image out₀ k₀ out k = recordCount - k
+μ-loop image out₀ records₀ k₀ out k = recordCount (length image) - k
 
 loop-holds : tie.Need-loop-holds Inv-loop μ-loop
 unfolding records
@@ -38,7 +38,7 @@ part-write-record-end c = search needs
 write-record-requires : tie.Need-write-record-requires Inv-loop μ-loop
 write-record-requires c κs = let l = c .before .before .loop in
     let p : 44 ≤ length (take (length (l .out) - l .k * 44) (drop (l .k * 44) (l .out))) = simp (length-take, length-drop) (omega arith) in
-    (search needs, p, search needs)
+    ((search needs, search needs), p)
 
 add-k : tie.Need-add-k Inv-loop μ-loop
 add-k c = search needs
@@ -59,6 +59,9 @@ loop-again c =
       c .before .out .given .1 ∙ l .inv .2,
     )
 
+mul-end : tie.Need-mul-end Inv-loop μ-loop
+mul-end c = search needs
+
 sub-write-end : tie.Need-sub-write-end Inv-loop μ-loop
 sub-write-end c = search needs
 
@@ -70,7 +73,8 @@ part-write-end-end c = search needs
 
 write-end-requires : tie.Need-write-end-requires Inv-loop μ-loop
 write-end-requires c κs = let l = c .before .before .loop in
-    let p : 12 ≤ length (take (length (l .out) - recordCount * 44) (drop (recordCount * 44) (l .out))) = simp (length-take, length-drop) (omega arith) in
+    let n = recordCount (length (now (c .before .before .before .before .before .args .image))) in
+    let p : 12 ≤ length (take (length (l .out) - n * 44) (drop (n * 44) (l .out))) = simp (length-take, length-drop) (omega arith) in
     p
 
 same-length : tie.Need-same-length Inv-loop μ-loop
@@ -83,10 +87,11 @@ returns c =
     let l = turn .loop in
     let a = turn .before .before .before .args in
     let m = now (a .image) in
-    let e : l .k ≡ recordCount = omega arith in
-    let g : l .out ≡ records m recordCount ++ drop (recordCount * 44) (now (a .out)) = rw e at (l .inv .1) in
+    let n = recordCount (length m) in
+    let e : l .k ≡ n = omega arith in
+    let g : l .out ≡ records m n ++ drop (n * 44) (now (a .out)) = rw e at (l .inv .1) in
     rw (c .before .before .write-end .ensures)
-    (part-back-behind (records m recordCount) endLine (l .out) (now (a .out)) (recordCount * 44) 12 (length-records m recordCount) g)
+    (part-back-behind (records m n) endLine (l .out) (now (a .out)) (n * 44) 12 (length-records m n) g)
 
 pub write-lines-spec : {M : Type 1} → statement M
 write-lines-spec =
@@ -103,6 +108,7 @@ write-lines-spec =
     add-k
     loop-less
     loop-again
+    mul-end
     sub-write-end
     part-write-end-start
     part-write-end-end

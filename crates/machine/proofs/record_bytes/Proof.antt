@@ -1,5 +1,6 @@
 -- Eight bytes read one by one are the slice.
-use Rattle.machine.proofs.Joins.{record-elements}
+use Rattle.base.specs.Lists.{all-elements}
+use Rattle.base.specs.Lengths.{recordLength}
 use borrow.Author.Needs.{needs}
 use Rattle.machine.proofs.record_bytes.Statement.{statement}
 use Rattle.machine.proofs.record_bytes.Tie as tie
@@ -31,7 +32,7 @@ shared-slice-read-t17 c = search needs
 returns : tie.Need-returns
 returns c =
     let fourth = c .before .before .before .before in
-    record-elements _ (fourth .before .before .before .before .pre)
+    all-elements recordLength _ (fourth .before .before .before .before .pre)
 
 pub record-bytes-spec : {M : Type 1} → statement M
 record-bytes-spec =

@@ -9,7 +9,7 @@ use Rattle.machine.specs.Reached.{Marks, reachedIn}
 use Rattle.machine.specs.ReachedLaws.{marks-none, marks-next}
 use denote.Ref.{now}
 use lib.ListN.{length, take, drop, length-take, length-drop}
-use Rattle.semantics.specs.declared.Configuration.{Configuration}
+use Rattle.semantics.specs.Setup.{Setup, setupOf}
 use Rattle.semantics.specs.declared.State.{State}
 use Rattle.semantics.specs.declared.Stepped.{Stepped}
 use Rattle.semantics.specs.Step.{actedOf, settled, validMachine}
@@ -24,25 +24,25 @@ use Rattle.machine.proofs.run_records.Statement.{statement}
 use Rattle.machine.proofs.run_records.Tie as tie
 
 abbrev Inv-loop : tie.InvT-loop
-Inv-loop K image schedule map₀ count regs₀ core₀ i₀ map regs core i =
+Inv-loop k image schedule map₀ count regs₀ core₀ i₀ map regs core i =
     (i ≤ count)
     × (count ≡ length schedule / recordLength)
-    × (validMachine K image ≡ true)
-    × (runFrom (count - i) K image schedule i (stateWith regs core) ≡ runFrom count K image schedule 0 (stateWith regs₀ core₀))
-    × (stateWith regs core ≡ stateBehind i K image schedule 0 (stateWith regs₀ core₀))
+    × (validMachine (setupOf k) image ≡ true)
+    × (runFrom (count - i) (setupOf k) image schedule i (stateWith regs core) ≡ runFrom count (setupOf k) image schedule 0 (stateWith regs₀ core₀))
+    × (stateWith regs core ≡ stateBehind i (setupOf k) image schedule 0 (stateWith regs₀ core₀))
     × (length map ≡ length map₀)
-    × Marks map₀ map (reachedIn i K image (stateWith regs₀ core₀) schedule)
+    × Marks map₀ map (reachedIn i (setupOf k) image (stateWith regs₀ core₀) schedule)
 
 abbrev μ-loop : tie.MeasureT-loop
-μ-loop K image schedule map₀ count regs₀ core₀ i₀ map regs core i = count - i
+μ-loop k image schedule map₀ count regs₀ core₀ i₀ map regs core i = count - i
 
 -- behind the step of record i
 module _ (b : tie.After-step-in-place Inv-loop μ-loop) where
   abbrev loop : tie.At-loop Inv-loop μ-loop
   loop = b .before .before .before .before .before .before .before
 
-  abbrev K : Configuration
-  K = loop .before .before .before .before .before .before .args .configuration
+  abbrev K : Setup
+  K = setupOf (loop .before .before .before .before .before .before .args .configuration)
 
   abbrev image : List ℕ
   image = now (loop .before .before .before .before .before .before .args .image)

@@ -22,12 +22,12 @@ entry-rule-requires c κs = search needs
 returns : tie.Need-returns
 unfolding addressRule
 returns c =
-    let b = c .before .before in
+    let b = c .before .before .before in
     let g = b .before .before .before .args in
     let C = certificateOf (g .cert .now) in
     let a = g .a .0 in
     let q = b .entry-of .ensures ∙ b .before .entry-part .ensures .1 in
-    simp (c .entry-rule .ensures a q, c .before .empty-entry .ensures C a q, q, Bool·not-not)
+    simp (c .entry-rule .ensures a q, c .before .before .empty-entry .ensures C a q, q, Bool·not-not)
 
 pub address-rule-spec : {M : Type 1} → statement M
 address-rule-spec = tie.close (tie.spec entry-part-requires entry-of-requires empty-entry-requires entry-rule-requires returns)

@@ -12,10 +12,10 @@ use Rattle.rule20.proofs.starts_rule.Statement.{statement}
 use Rattle.rule20.proofs.starts_rule.Tie as tie
 
 abbrev Inv-loop : tie.InvT-loop
-Inv-loop cert n₀ n = (n ≤ 64) × ((k : ℕ) → k < n → Holds (startRule (certificateOf cert) k))
+Inv-loop rom cert n₀ n = (n ≤ 64) × ((k : ℕ) → k < n → Holds (startRule (certificateOf cert) rom k))
 
 abbrev μ-loop : tie.MeasureT-loop
-μ-loop cert n₀ n = 64 - n
+μ-loop rom cert n₀ n = 64 - n
 
 loop-holds : tie.Need-loop-holds Inv-loop μ-loop
 loop-holds c = (omega arith, λ k hk. absurd (omega arith))
@@ -26,10 +26,11 @@ start-rule-requires c κs = search needs
 returns : tie.Need-returns Inv-loop μ-loop
 unfolding startsRule
 returns c =
-    let C = certificateOf (c .before .before .before .before .before .args .cert .now) in
+    let g = c .before .before .before .before .before .args in
+    let C = certificateOf (g .cert .now) in
     let k = c .before .before .before .loop .n in
-    let fails = decide-false (startRule C k) (c .before .start-rule .ensures) (not-true _ (c .if1 .taken)) in
-    decide-no (startsRule C) (λ f. fails (f k (omega arith)))
+    let fails = decide-false (startRule C (g .rom) k) (c .before .start-rule .ensures) (not-true _ (c .if1 .taken)) in
+    decide-no (startsRule C (g .rom)) (λ f. fails (f k (omega arith)))
 
 add-n : tie.Need-add-n Inv-loop μ-loop
 add-n c = omega arith
@@ -39,16 +40,18 @@ loop-less c = omega arith
 
 loop-again : tie.Need-loop-again Inv-loop μ-loop
 loop-again c =
-    let C = certificateOf (c .before .before .before .before .before .args .cert .now) in
+    let g = c .before .before .before .before .before .args in
+    let C = certificateOf (g .cert .now) in
     let k = c .before .before .before .loop .n in
-    let here = decide-true (startRule C k) (c .before .start-rule .ensures) (not-false _ (c .if1 .left)) in
+    let here = decide-true (startRule C (g .rom) k) (c .before .start-rule .ensures) (not-false _ (c .if1 .left)) in
     (omega arith, below-more _ _ (c .before .before .before .loop .inv .1) here)
 
 returns-2 : tie.Need-returns-2 Inv-loop μ-loop
 unfolding startsRule
 returns-2 c =
-    let C = certificateOf (c .before .before .before .args .cert .now) in
-    decide-yes (startsRule C) (λ k hk. c .before .loop .inv .1 k (omega arith))
+    let g = c .before .before .before .args in
+    let C = certificateOf (g .cert .now) in
+    decide-yes (startsRule C (g .rom)) (λ k hk. c .before .loop .inv .1 k (omega arith))
 
 pub starts-rule-spec : {M : Type 1} → statement M
 starts-rule-spec =

@@ -50,9 +50,6 @@ add-high c = search needs
 add-high-2 : tie.Need-add-high-2
 add-high-2 c = search needs
 
-cast-inside : tie.Need-cast-inside
-cast-inside c = search needs
-
 add-inside : tie.Need-add-inside
 add-inside c = search needs
 
@@ -93,7 +90,6 @@ pair-in-rom-spec =
     cast-high-2
     add-high
     add-high-2
-    cast-inside
     add-inside
     claimed-in-requires
     returns)

@@ -2,15 +2,15 @@
 -- Assumes nothing.
 use Prim.Native.Nat.{_≤_, _-_}
 use borrow.Author.Needs.{needs}
-use Rattle.base.specs.Lengths.{romLength}
+use Rattle.base.specs.Lengths.{largestRom}
 use Rattle.judge_bench.proofs.texts.image.Statement.{statement}
 use Rattle.judge_bench.proofs.texts.image.Tie as tie
 
 abbrev Inv-loop : tie.InvT-loop
-Inv-loop image₀ i₀ image i = i ≤ romLength
+Inv-loop image₀ i₀ image i = i ≤ largestRom
 
 abbrev μ-loop : tie.MeasureT-loop
-μ-loop image₀ i₀ image i = romLength - i
+μ-loop image₀ i₀ image i = largestRom - i
 
 loop-holds : tie.Need-loop-holds Inv-loop μ-loop
 loop-holds c = search needs

@@ -1,17 +1,14 @@
 -- Every case is run: the measure is the number of cases that may still come.
 -- Assumes nothing.
 use borrow.Author.Needs.{needs}
-use Rattle.hex_vectors.proofs.run_cases.Statement.{statement}
-use Rattle.hex_vectors.proofs.run_cases.Tie as tie
+use Rattle.hex_cases.proofs.run_cases.Statement.{statement}
+use Rattle.hex_cases.proofs.run_cases.Tie as tie
 
 abbrev Inv-loop : tie.InvT-loop
-Inv-loop fd counts₀ counts = Unit {0}
+Inv-loop profile name fd counts₀ counts = Unit {0}
 
 abbrev μ-loop : tie.MeasureT-loop
-μ-loop fd counts₀ counts = counts .left
-
-slice-aggregate-open : tie.Need-slice-aggregate-open Inv-loop μ-loop
-slice-aggregate-open c = search needs
+μ-loop profile name fd counts₀ counts = counts .left
 
 open-requires : tie.Need-open-requires Inv-loop μ-loop
 open-requires c κs = search needs
@@ -46,7 +43,6 @@ run-cases-spec =
     (tie.spec
     Inv-loop
     μ-loop
-    slice-aggregate-open
     open-requires
     start-requires
     loop-holds

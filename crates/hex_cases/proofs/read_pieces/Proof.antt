@@ -4,8 +4,8 @@ use mathlib.Core.Path.{_≡_, refl, _∙_}
 use Prim.Native.Nat.{_≤_, _-_}
 use lib.ListN.{length}
 use borrow.Author.Needs.{needs}
-use Rattle.hex_vectors.proofs.read_pieces.Statement.{statement}
-use Rattle.hex_vectors.proofs.read_pieces.Tie as tie
+use Rattle.hex_cases.proofs.read_pieces.Statement.{statement}
+use Rattle.hex_cases.proofs.read_pieces.Tie as tie
 
 abbrev Inv-loop : tie.InvT-loop
 Inv-loop text step image₀ s₀ at₀ image s at = (at ≤ length text) × (length image ≡ length image₀)

@@ -3,8 +3,8 @@
 use mathlib.Core.Path.{sym}
 use lib.Seq.{length-take-le}
 use borrow.Author.Needs.{needs}
-use Rattle.hex_vectors.proofs.compare.Statement.{statement}
-use Rattle.hex_vectors.proofs.compare.Tie as tie
+use Rattle.hex_cases.proofs.compare.Statement.{statement}
+use Rattle.hex_cases.proofs.compare.Tie as tie
 
 returns : tie.Need-returns
 returns c = search needs
@@ -36,9 +36,6 @@ slice-reshare-prefix-agrees c = search needs
 slice-aggregate-agrees : tie.Need-slice-aggregate-agrees
 slice-aggregate-agrees c = sym (length-take-le _ _ (search needs))
 
-slice-aggregate-agrees-2 : tie.Need-slice-aggregate-agrees-2
-slice-aggregate-agrees-2 c = search needs
-
 agrees-requires : tie.Need-agrees-requires
 agrees-requires c κs = search needs
 
@@ -62,7 +59,6 @@ compare-spec =
     add-step
     slice-reshare-prefix-agrees
     slice-aggregate-agrees
-    slice-aggregate-agrees-2
     agrees-requires
     same-length
     returns-2)

@@ -4,8 +4,8 @@ use mathlib.Core.Path.{_≡_, refl}
 use Prim.Native.Nat.{_≤_, _-_}
 use lib.ListN.{length, length-set}
 use borrow.Author.Needs.{needs}
-use Rattle.hex_vectors.proofs.fill.Statement.{statement}
-use Rattle.hex_vectors.proofs.fill.Tie as tie
+use Rattle.hex_cases.proofs.fill.Statement.{statement}
+use Rattle.hex_cases.proofs.fill.Tie as tie
 
 abbrev Inv-loop : tie.InvT-loop
 Inv-loop image₀ i₀ image i = (i ≤ length image₀) × (length image ≡ length image₀)
