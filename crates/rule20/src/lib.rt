@@ -132,8 +132,10 @@ fn address_rule(rom: u16, cert: &[u8], a: RomAddr) -> bool
     ensures { λ r. ⌜ r ≡ decide (addressRule (certificateOf (now (cert .entry))) rom (a .0)) ⌝ }
 {
     let e = entries::entry_of(entries::entry_part(cert, a));
-    let n = e.routine;
-    ((n != 0) | empty_entry(e)) & ((n == 0) | (a.0 < rom) & entry_rule(cert, e))
+    if e.routine == 0 {
+        return empty_entry(e);
+    }
+    (a.0 < rom) & entry_rule(cert, e)
 }
 
 // The depth at the start of routine n.
