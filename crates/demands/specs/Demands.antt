@@ -7,7 +7,8 @@
 --   `reset` resetState; `step` stepOf; `run` runOf; `run_covered` coveredRun, coveredMap; `count` markedCount;
 --   `check` verdictOf; `configuration_of` setupFor; `lowest_unmarked` lowestOf;
 --   `write_report` reportAnswer, reportBuffer; `judge_texts` printedAnswer, printedBuffer.
--- `judge_files` promises what `judge_texts` does of some two texts: no contract can say what a file holds.
+-- `judge_files` promises what `judge_texts` does of some two texts, `read_file` what `read_text` answers of some text and what `feed` leaves of some part of
+-- it: no contract can say what a file holds.
 -- A call reaches no memory but what it is lent: the language has no other.
 -- Assumes nothing.
 use Prim.Native.Nat.{ℕ, _+_, _-_, _/_, _%_, _≤_, _<_}

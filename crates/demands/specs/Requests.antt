@@ -37,8 +37,8 @@ use Rattle.action.specs.declared.Action.{Action}
 use Rattle.action.specs.Action.{actionOf}
 use Rattle.chip.specs.Registers.{inputsOf, loadOf, storeOf}
 use Rattle.chip.specs.Laws.{grounded-reads-0, ungrounded-reads-record, other-reads-same}
-use Rattle.semantics.specs.Operands.{withFlags}
-use Rattle.semantics.specs.Execute.{codeAddress, loadCodeOf}
+use Rattle.semantics.specs.Operands.{wordAt, withFlags}
+use Rattle.semantics.specs.Execute.{codeAddress, loadCodeOf, loadCodeStepOf}
 use Rattle.semantics.specs.declared.Configuration.{Configuration}
 use Rattle.semantics.specs.Setup.{Setup, setupOf}
 use Rattle.semantics.specs.declared.Mode.the-variants.{Running}
@@ -265,7 +265,7 @@ write-other-image rom image out other =
     let e : writeAnswer rom (length image) (length out) ≡ refused 7 = rw (eqb-no other) in
     (e, write-unchanged rom image out 7 e)
 
--- it ends ROM at 07FFH: a fetch past the part's ROM is 10, an LDC there 14
+-- it ends ROM at 07FFH: an instruction that begins past the part's ROM is 10, an LDC, LDCI or LDCD there 14
 pub fetch-past-rom-stops : (K : Setup) (image : List ℕ) (s : State) (rec : List ℕ) → validMachine K image ≡ true → length rec ≡ recordLength
     → entryDue (requested s rec) (s .mode) ≡ false → s .mode ≡ Running → K .part .rom ≤ s .pc .0 → stepOf K image s rec ≡ refuse s 10
 fetch-past-rom-stops = fetch-past-rom
@@ -274,6 +274,11 @@ pub load-past-rom-stops : (image : List ℕ) (rom : ℕ) → length image ≡ ro
     → rom ≤ codeAddress c regs inputs → loadCodeOf d c image regs inputs pc .next .stop ≡ 14
 unfolding loadCodeOf
 load-past-rom-stops image rom size d c regs inputs pc past = rw (ltb-no {a = codeAddress c regs inputs} {b = length image} (rw size past))
+
+pub step-past-rom-stops : (image : List ℕ) (rom : ℕ) → length image ≡ rom → (d p : RegAddr) (up : Bool) (regs inputs : List ℕ) (pc : RomAddr)
+    → rom ≤ wordAt regs inputs (p .0) → loadCodeStepOf d p up image regs inputs pc .next .stop ≡ 14
+unfolding loadCodeStepOf
+step-past-rom-stops image rom size d p up regs inputs pc past = rw (ltb-no {a = wordAt regs inputs (p .0)} {b = length image} (rw size past))
 
 -- it allows no certificate entry past that: 20 for an entry beyond it, and for any byte there that is not 0; so an accepted certificate has none
 pub entry-beyond : (rom : ℕ) (image cert : List ℕ) → length image ≡ rom → isCertificateLength (length cert) ≡ true → (a : ℕ) → rom ≤ a → a < largestRom

@@ -58,11 +58,13 @@ turnsLeft turns state = pick (eqb state 0) (turns - 1) 0
 abbrev pub answerOf : Stream → ℕ → ℕ → Outcome (Unit {0})
 answerOf s state size = pick (eqb state 2) (finishAnswer size started) (finishAnswer size s)
 
--- some text was read as a whole file
+-- some text was read as a whole file. On a refusal too the buffer is given: some part was fed, whose lines before a refused one were written
 pub record Reads (answer : Outcome (Unit {0})) (before after : List ℕ) : Type 0 where
   pub text : List ℕ
   pub answers : answer ≡ textAnswer text (length before)
   pub leaves : Leaves answer (textBuffer text before) after
+  pub part : List ℕ
+  pub buffer : after ≡ feedBuffer started part before
 
 -- some texts were read as an image file and a certificate file, and what is printed of them was written
 pub record Judges (answer : Outcome ℕ) (before after : List ℕ) : Type 0 where

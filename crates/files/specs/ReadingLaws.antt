@@ -197,7 +197,7 @@ reads-finish : {s : Stream} {o : Outcome (Unit {0})} {m m₁ : List ℕ} (t : Li
 reads-finish {s} {o} {m} {m₁} t p q e a =
     let w = one-piece t m in
     let answers : o ≡ textAnswer t (length m) = a ∙ rw (e, p) (w .0) in
-    record { text = t; answers = answers; leaves = rw (answers, q) (w .1) }
+    record { text = t; answers = answers; leaves = rw (answers, q) (w .1); part = t; buffer = q }
 
 -- an empty file is refused
 empty-answer : (n : ℕ) → textAnswer [] n ≡ refused (pick (bufferLength n) 6 7)
@@ -208,13 +208,19 @@ empty-answer n = by-test (bufferLength n)
     by-test true = refl
     by-test false = refl
 
--- a file that cannot be read counts as empty, whatever was read before
-pub reads-none : {o : Outcome (Unit {0})} {m m₁ : List ℕ} → length m₁ ≡ length m → o ≡ finishAnswer (length m₁) started → Reads o m m₁
+-- a file that cannot be read counts as empty, whatever part was read before
+pub reads-none : {o : Outcome (Unit {0})} {m m₁ : List ℕ} (t : List ℕ) → m₁ ≡ feedBuffer started t m → length m₁ ≡ length m
+    → o ≡ finishAnswer (length m₁) started → Reads o m m₁
 unfolding feedStream
-reads-none {o} {m} {m₁} e a =
+reads-none {o} {m} {m₁} t q e a =
     let f : textAnswer [] (length m) ≡ refused (pick (bufferLength (length m)) 6 7) = empty-answer (length m) in
     let g : finishAnswer (length m₁) started ≡ refused (pick (bufferLength (length m)) 6 7) = rw e (one-piece [] m .0 ∙ f) in
-    rw (a ∙ g) (record { text = []; answers = sym f; leaves = tt })
+    rw (a ∙ g) (record { text = []; answers = sym f; leaves = tt; part = t; buffer = q })
+
+-- one that cannot be opened leaves the buffer
+pub reads-missing : {o : Outcome (Unit {0})} (m : List ℕ) → o ≡ finishAnswer (length m) started → Reads o m m
+unfolding feedBuffer
+reads-missing m a = reads-none [] refl refl a
 
 -- the end of the reading
 pub reads-turn : {s : Stream} {o : Outcome (Unit {0})} {n k state : ℕ} {m m₁ : List ℕ} → length m₁ ≡ length m → Turned started s n k state m m₁
@@ -222,7 +228,7 @@ pub reads-turn : {s : Stream} {o : Outcome (Unit {0})} {n k state : ℕ} {m m₁
 reads-turn {s} {o} {n} {k} {state} {m} {m₁} e t a = by-test (eqb state 2) a
   where
     by-test : (b : Bool) → o ≡ pick b (finishAnswer (length m₁) started) (finishAnswer (length m₁) s) → Reads o m m₁
-    by-test true q = reads-none e q
+    by-test true q = reads-none (t .fed .text ++ t .line) (turned-text t .1) e q
     by-test false q = let w = turned-text t in reads-finish (t .fed .text ++ t .line) (w .0) (w .1) e q
 
 -- what stands behind a refused line cannot change the answer, so it is not read

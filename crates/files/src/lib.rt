@@ -129,8 +129,8 @@ fn answer_of(turn: Turn, length: usize) -> Text
     hex_text::finish(stream, length)
 }
 
-// Reads a file by its name into a buffer, as the HEX readers go by its length. A missing file counts as empty. What is wrong in the file is told in one
-// line on the descriptor `errors`.
+// Reads a file by its name into a buffer, as the HEX readers go by its length. A missing file counts as empty. When a line is refused, the lines before it
+// are in the buffer. What is wrong in the file is told in one line on the descriptor `errors`.
 pub fn read_file(name: &[u8], buffer: &mut [u8], errors: i32) -> Text
     ensures { λ r. ⌜ Reads (textOutcome r) (now (buffer .entry)) (now (buffer .exit)) ⌝ }
 {

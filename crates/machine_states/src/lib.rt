@@ -97,6 +97,11 @@ pub fn configuration_of(bytes: &[u8]) -> Configuration {
     }
 }
 
+// Whether the configuration that is given as bytes names a part.
+pub fn is_configuration(bytes: &[u8]) -> bool {
+    byte_at(bytes, PROFILE) <= 1
+}
+
 // The image of the configuration's part: the front of a buffer that has room for each part's.
 pub fn image_for(configuration: Configuration, buffer: &[u8; IMAGE_4K]) -> &[u8] {
     let profile = configuration.profile;

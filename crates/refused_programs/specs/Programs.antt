@@ -1,4 +1,4 @@
--- Eighteen small programs with their certificates, each of which breaks one rule.
+-- Nineteen small programs with their certificates. Eighteen break one rule each; one is accepted.
 -- Assumes nothing.
 use mathlib.Core.List.{List, [], _∷_, _++_}
 use Prim.Native.Nat.{ℕ, _-_}

@@ -1,6 +1,7 @@
 // Compares `machine::run_covered` and `machine::run` with the cases of the file `runs.bin`, and prints what differs. A case is a configuration; edits of an
 // image of FFH, as long as its part has it; a state; records; and what a run over them leaves from an empty map. From the marks that it leaves, and from all marks, it must add none.
-// Maps of other lengths come first.
+// Images and maps of other lengths come first.
+use base::IMAGE_2K;
 use base::IMAGE_4K;
 use base::Profile;
 use base::RECORD_LENGTH;
@@ -10,6 +11,7 @@ use machine_states::CONFIGURATION_LENGTH;
 use machine_states::STATE_LENGTH;
 use machine_states::configuration_of;
 use machine_states::image_for;
+use machine_states::is_configuration;
 use machine_states::is_supported_state;
 use machine_states::same_state;
 use machine_states::state_of;
@@ -167,11 +169,13 @@ fn tell(whole: bool, supported: bool, runs: Runs) {
     print(b"\n");
 }
 
-// Whether the machine has the states of a case.
-fn is_supported(given: &Given, expected: &Expected) -> bool {
+// Whether the machine has the part and the states of a case.
+fn is_supported(configuration: &ConfigurationBytes, given: &Given, expected: &Expected) -> bool {
     let start = &given[..];
     let end = &expected[..];
-    is_supported_state(&start[START..RECORDS]) & is_supported_state(&end[STATE..MARKED])
+    is_configuration(configuration)
+        & is_supported_state(&start[START..RECORDS])
+        & is_supported_state(&end[STATE..MARKED])
 }
 
 // Reads the next records of a file, so many; whether the file has them all, and the slice has room for them.
@@ -204,7 +208,7 @@ fn compare(fd: i32, configuration: &ConfigurationBytes, counts: Counts) -> Case 
     let ended = io::read_full(fd, &mut expected) == EXPECTED_LENGTH;
     let marked = map_cases::read_marks(fd, word_at(&expected, MARKED), &mut marks);
     let whole = edited & started & scheduled & ended & marked.whole & marked.distinct;
-    let supported = is_supported(&given, &expected);
+    let supported = is_supported(configuration, &given, &expected);
     let records = first_records(&schedule, count);
     let configured = configuration_of(configuration);
     let runs = runs_of(
@@ -269,7 +273,39 @@ fn try_words(words: usize) {
     }
 }
 
+// Prints the numbers of a step and of a run on a part with an image of so many bytes, at most 4096.
+fn try_image(name: &[u8], profile: Profile, length: usize) {
+    let image: Image = [255; IMAGE_4K];
+    let configuration = Configuration {
+        profile: profile,
+        entry_cost: 0,
+    };
+    let rec = [0u8; RECORD_LENGTH];
+    if length <= IMAGE_4K {
+        let part = &image[0..length];
+        let stepped = machine::step(configuration, part, machine::reset(), &rec);
+        let ran = machine::run(configuration, part, machine::reset(), &[]);
+        print(name);
+        print(b" part, image of ");
+        print_number(length as u64);
+        print(b": step ");
+        print_number(stepped.stop as u64);
+        print(b", empty run ");
+        print_number(ran.stop as u64);
+        print(b"\n");
+    }
+}
+
+fn try_images() {
+    try_image(b"4K", Profile::Rom4K, IMAGE_4K);
+    try_image(b"4K", Profile::Rom4K, IMAGE_2K);
+    try_image(b"2K", Profile::Rom2K, IMAGE_2K);
+    try_image(b"2K", Profile::Rom2K, IMAGE_4K);
+    try_image(b"2K", Profile::Rom2K, IMAGE_2K - 1);
+}
+
 fn main() {
+    try_images();
     try_words(0);
     try_words(WORDS - 1);
     try_words(WORDS);

@@ -1,5 +1,6 @@
--- The verdict on an image and a certificate, for a ROM of rom bytes (request 04): 7 for wrong lengths, then rule 20, then the lowest address and there the lowest number. Below it,
--- what a verdict reports of the rules. The verdict goes by a list of rules at each address, so that S`Formerly` can say what it was with others.
+-- The verdict on an image and a certificate, for a ROM of rom bytes (request 04): 7 for wrong lengths, then rule 20, then the lowest address and there
+-- the lowest number. Below it, what a verdict reports of the rules. The verdict goes by a list of rules at each address, so that S`Formerly` can say what
+-- it was with others.
 -- Assumes nothing.
 use Prim.Native.Nat.{ℕ, zero, suc, _+_, _%_, _<_}
 use mathlib.Core.Path.{_≡_}

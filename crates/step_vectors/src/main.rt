@@ -5,6 +5,7 @@ use machine_states::CONFIGURATION_LENGTH;
 use machine_states::STATE_LENGTH;
 use machine_states::configuration_of;
 use machine_states::image_for;
+use machine_states::is_configuration;
 use machine_states::is_supported_state;
 use machine_states::same_state;
 use machine_states::state_of;
@@ -38,10 +39,12 @@ fn image_of(vector: &[u8], pc: u16, window: &[u8]) -> [u8; IMAGE_4K] {
     image
 }
 
-// Whether the machine has the states of a case.
+// Whether the machine has the part and the states of a case.
 fn is_supported(case: &[u8; CASE_LENGTH]) -> bool {
     let bytes = &case[..];
-    is_supported_state(&bytes[GIVEN..RECORD]) & is_supported_state(&bytes[EXPECTED..CASE_LENGTH])
+    is_configuration(&bytes[CONFIGURATION..VECTOR])
+        & is_supported_state(&bytes[GIVEN..RECORD])
+        & is_supported_state(&bytes[EXPECTED..CASE_LENGTH])
 }
 
 // The step of a case.

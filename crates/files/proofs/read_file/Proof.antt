@@ -1,7 +1,6 @@
 -- `read_file`: a missing file is read as an empty text, another as `read_open` reads it.
 -- Assumes nothing.
-use mathlib.Core.Path.{refl}
-use Rattle.files.specs.ReadingLaws.{reads-none, reads-turn}
+use Rattle.files.specs.ReadingLaws.{reads-missing, reads-turn}
 use borrow.Author.Needs.{needs}
 use Rattle.files.proofs.read_file.Statement.{statement}
 use Rattle.files.proofs.read_file.Tie as tie
@@ -19,7 +18,7 @@ finish-requires : tie.Need-finish-requires
 finish-requires c κs = search needs
 
 returns : tie.Need-returns
-returns c = reads-none refl (rw (c .before .start .ensures) at (c .finish .ensures))
+returns c = reads-missing _ (rw (c .before .start .ensures) at (c .finish .ensures))
 
 read-open-requires : tie.Need-read-open-requires
 read-open-requires c κs = search needs
