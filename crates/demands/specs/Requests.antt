@@ -38,7 +38,7 @@ use Rattle.action.specs.Action.{actionOf}
 use Rattle.chip.specs.Registers.{inputsOf, loadOf, storeOf}
 use Rattle.chip.specs.Laws.{grounded-reads-0, ungrounded-reads-record, other-reads-same}
 use Rattle.semantics.specs.Operands.{wordAt, withFlags}
-use Rattle.semantics.specs.Execute.{codeAddress, loadCodeOf, loadCodeStepOf}
+use Rattle.semantics.specs.Execute.{codeAddress, inRom, loadCodeOf, loadCodeStepOf}
 use Rattle.semantics.specs.declared.Configuration.{Configuration}
 use Rattle.semantics.specs.Setup.{Setup, setupOf}
 use Rattle.semantics.specs.declared.Mode.the-variants.{Running}
@@ -270,15 +270,18 @@ pub fetch-past-rom-stops : (K : Setup) (image : List ℕ) (s : State) (rec : Lis
     → entryDue (requested s rec) (s .mode) ≡ false → s .mode ≡ Running → K .part .rom ≤ s .pc .0 → stepOf K image s rec ≡ refuse s 10
 fetch-past-rom-stops = fetch-past-rom
 
+outside-rom : (image : List ℕ) (rom : ℕ) → length image ≡ rom → (a : ℕ) (pc : RomAddr) → rom ≤ a → inRom image a pc .stop ≡ 14
+outside-rom image rom size a pc past = rw (ltb-no {a = a} {b = length image} (rw size past))
+
 pub load-past-rom-stops : (image : List ℕ) (rom : ℕ) → length image ≡ rom → (d : RegAddr) (c : CodeAddress) (regs inputs : List ℕ) (pc : RomAddr)
     → rom ≤ codeAddress c regs inputs → loadCodeOf d c image regs inputs pc .next .stop ≡ 14
 unfolding loadCodeOf
-load-past-rom-stops image rom size d c regs inputs pc past = rw (ltb-no {a = codeAddress c regs inputs} {b = length image} (rw size past))
+load-past-rom-stops image rom size d c regs inputs pc past = outside-rom image rom size (codeAddress c regs inputs) pc past
 
 pub step-past-rom-stops : (image : List ℕ) (rom : ℕ) → length image ≡ rom → (d p : RegAddr) (up : Bool) (regs inputs : List ℕ) (pc : RomAddr)
     → rom ≤ wordAt regs inputs (p .0) → loadCodeStepOf d p up image regs inputs pc .next .stop ≡ 14
 unfolding loadCodeStepOf
-step-past-rom-stops image rom size d p up regs inputs pc past = rw (ltb-no {a = wordAt regs inputs (p .0)} {b = length image} (rw size past))
+step-past-rom-stops image rom size d p up regs inputs pc past = outside-rom image rom size (wordAt regs inputs (p .0)) pc past
 
 -- it allows no certificate entry past that: 20 for an entry beyond it, and for any byte there that is not 0; so an accepted certificate has none
 pub entry-beyond : (rom : ℕ) (image cert : List ℕ) → length image ≡ rom → isCertificateLength (length cert) ≡ true → (a : ℕ) → rom ≤ a → a < largestRom

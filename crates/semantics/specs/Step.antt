@@ -81,15 +81,15 @@ enterOf image regs pc =
 abbrev pub behind : RomAddr → ℕ → RomAddr
 behind pc n = romAddr ((pc .0 + n) % 65536)
 
--- the instruction that was decoded at the program counter, on the registers after the requests; rec are the step's inputs, here and below
+-- the instruction that was decoded at the program counter, on the registers after the requests
 unfoldable pub afterDecode : Outcome (Instruction × ℕ × FlagSet) → List ℕ → State → List ℕ → List ℕ → Acted
-afterDecode (value d) image s regs rec =
+afterDecode (value d) image s regs inputs =
     let next = behind (s .pc) (d .1) in
-    finishOf s (executeOf (actionOf (d .0) next) (d .2) image regs rec next) true (cyclesOf (getD image (s .pc .0) 0))
-afterDecode (refused n) image s regs rec = refusedAct s n
+    finishOf s (executeOf (actionOf (d .0) next) (d .2) image regs inputs next) true (cyclesOf (getD image (s .pc .0) 0))
+afterDecode (refused n) image s regs inputs = refusedAct s n
 
 unfoldable pub instructionAct : List ℕ → State → List ℕ → List ℕ → Acted
-instructionAct image s regs rec = afterDecode (decodeAt image (s .pc .0)) image s regs rec
+instructionAct image s regs inputs = afterDecode (decodeAt image (s .pc .0)) image s regs inputs
 
 -- waiting costs nothing and keeps the requests
 abbrev pub waitingAct : State → List ℕ → ℕ → Acted
@@ -101,13 +101,13 @@ idleCycles = 4
 
 -- the act of a machine for which no entry is due
 unfoldable pub modeAct : Mode → List ℕ → State → List ℕ → List ℕ → Acted
-modeAct Running image s regs rec = instructionAct image s regs rec
-modeAct Idle image s regs rec = waitingAct s regs idleCycles
-modeAct Stopped image s regs rec = waitingAct s regs 0
+modeAct Running image s regs inputs = instructionAct image s regs inputs
+modeAct Idle image s regs inputs = waitingAct s regs idleCycles
+modeAct Stopped image s regs inputs = waitingAct s regs 0
 
 unfoldable pub actAfterRequests : Bool → Setup → List ℕ → State → List ℕ → List ℕ → Acted
-actAfterRequests true K image s regs rec = finishOf s (enterOf image regs (s .pc)) false (K .entryCost)
-actAfterRequests false K image s regs rec = modeAct (s .mode) image s regs rec
+actAfterRequests true K image s regs inputs = finishOf s (enterOf image regs (s .pc)) false (K .entryCost)
+actAfterRequests false K image s regs inputs = modeAct (s .mode) image s regs inputs
 
 -- the registers after the requests of a record
 abbrev pub requested : State → List ℕ → List ℕ
