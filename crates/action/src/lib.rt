@@ -1,4 +1,5 @@
 // What an instruction does, by the shape of its operands: the machine and the checker work on these kinds and not on 198 codes.
+#![tactic(auto)]
 ghost use Rattle.std.specs.Prelude.{◌≡◌};
 ghost use Rattle.action.specs.Action.{work_of, load_code, load_code_step, load_code_direct, implied_action, action_of};
 

@@ -1,4 +1,5 @@
 // Operations on bytes with their flags, and the FLAGS register.
+#![tactic(auto)]
 ghost use Rattle.std.specs.Prelude.{◌≡◌, ◌*◌, ◌%◌, ◌<◌, ◌≤◌};
 ghost use Rattle.base.specs.Choice.{pick};
 ghost use Rattle.alu.specs.Flags.{carry, zero_flag, sign_flag, overflow_flag, flags_byte, update};

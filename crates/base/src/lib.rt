@@ -1,6 +1,8 @@
 // The two address spaces of the chip, the registers that code names, an address with an offset, the parts of the family, the lengths of image,
 // certificate and record, the greatest cost of an interrupt entry, and a slice's byte. A register address never stands where a program address is
 // meant.
+#![tactic(auto)]
+
 ghost use Rattle.std.specs.Prelude.{◌≡◌, ◌≤◌, ◌==◌, slice_index};
 ghost use Rattle.base.specs.Addresses.{displaced};
 ghost use Rattle.base.specs.Lengths.{largest_rom, is_certificate_length, is_entry_cost};

@@ -1,4 +1,5 @@
 // What the benchmarks of the machine share: the programs that they run, the schedule, what a run leaves, and the arguments.
+#![tactic(auto)]
 use base::{IMAGE_4K, RECORD_LENGTH};
 use semantics::State;
 use test_support::{print, print_hex, print_number, put};

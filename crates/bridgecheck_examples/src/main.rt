@@ -1,5 +1,6 @@
 // Prints the names of an image file and a certificate file, what is wrong in them and their judgement, for each case; also the judgement of two
 // texts.
+#![tactic(auto)]
 use hex_write::Written;
 use libc::STDOUT_FILENO;
 use report::REPORT_LENGTH;

@@ -1,5 +1,6 @@
 // Judges `image.hex` with `cert.hex` for the 2K part. It prints the answer as `bridgecheck` does for the 4K part, and tells on standard error what is wrong
 // in a file.
+#![tactic(auto)]
 use base::{IMAGE_2K, Profile};
 use hex_write::Written;
 use libc::{STDERR_FILENO, STDOUT_FILENO};

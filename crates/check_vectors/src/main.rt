@@ -1,5 +1,6 @@
 // Runs the checker on the cases of the file checks.bin, and prints what differs. A case is a byte for the profile and one for the
 // certificate's length; edits of an image of FFH, and of a certificate of 00H; and the answer that it expects.
+#![tactic(auto)]
 ghost use Rattle.std.specs.Prelude.{◌≤◌};
 ghost use Rattle.base.specs.Lengths.{long_certificate_length};
 

@@ -1,4 +1,5 @@
 // The certificate checker.
+#![tactic(auto)]
 ghost use Rattle.std.specs.Prelude.{◌≡◌};
 ghost use Rattle.base.specs.Parts.{part_of};
 ghost use Rattle.certificate.specs.Layout.{certificate_of};

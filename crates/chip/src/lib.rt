@@ -1,4 +1,5 @@
 // The register file: which addresses are mapped, a step's inputs, what a read gives, what a write leaves, reset.
+#![tactic(auto)]
 ghost use Rattle.std.specs.Prelude.{◌≡◌};
 ghost use Rattle.base.specs.Choice.{pick};
 ghost use Rattle.chip.specs.Registers.{kept_bits, mapped_of, inputs_of, grounded_now, load_of, written_f7, written_of, kept_of, store_of};

@@ -1,5 +1,6 @@
 // Loads from program memory on registers in place: LDC, LDCI and LDCD.
 // The functions are for the crate `execute`, which chooses among the actions.
+#![tactic(auto)]
 ghost use Rattle.std.specs.Prelude.{◌≡◌};
 ghost use Rattle.base.specs.Addresses.{rom_addr};
 ghost use Rattle.base.specs.Choice.{pick};

@@ -1,4 +1,5 @@
 // An instruction's bytes as a value, and those of its operands that can be refused.
+#![tactic(auto)]
 ghost use Rattle.std.specs.Prelude.{◌≡◌, [], ◌∷◌, ◌/◌, ◌%◌};
 ghost use Rattle.coded.specs.Operands.{nibble_pair, nibbles, even_pair, long_offset};
 ghost use Rattle.coded.specs.Answer.{joined, coded};

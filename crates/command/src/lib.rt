@@ -1,4 +1,5 @@
 // The program `bridgecheck`, for any two descriptors.
+#![tactic(auto)]
 use hex_write::Written;
 use report::REPORT_LENGTH;
 

@@ -1,4 +1,5 @@
 // The 16 conditions of a FLAGS byte.
+#![tactic(auto)]
 ghost use Rattle.std.specs.Prelude.{◌≡◌};
 ghost use Rattle.alu.specs.Flags.{condition_on, condition};
 

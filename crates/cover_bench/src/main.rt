@@ -1,5 +1,6 @@
 // Runs with a coverage map, and summaries, to be timed: `cover_bench WHAT COUNT SEED`. Rows 1 to 3 are those of `machine_bench` with a map, COUNT thousands of
 // records; row 4 is COUNT summaries. A program of its own, since `run` takes other instructions in a program that also has `run_covered`.
+#![tactic(auto)]
 use base::{IMAGE_4K, LONG_CERTIFICATE_LENGTH, Profile};
 use bench_programs::{SCHEDULE, program, schedule, tell};
 use coverage::{Map, WORDS};

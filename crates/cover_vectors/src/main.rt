@@ -1,5 +1,6 @@
 // Compares `coverage::count` and `uncovered::lowest_unmarked` with the cases of the file `uncovered.bin`, and prints what differs. A case is the marked addresses of a
 // map; edits of a certificate of 00H; and what it expects: how many addresses are marked, and the lowest start that is not. Certificates of other lengths come first.
+#![tactic(auto)]
 use base::{LONG_CERTIFICATE_LENGTH, SHORT_CERTIFICATE_LENGTH};
 use coverage::{Map, WORDS};
 use test_support::{Case, Counts, print, print_number, word};

@@ -1,5 +1,6 @@
 // Prints the table of cycles in docs/CERTIFICATE.md, a row for each instruction with its operands. The names are typed here; bytes and cycles
 // are those of `isa`. The last line tells whether each first byte is in the one row that it belongs to.
+#![tactic(auto)]
 use base::byte_at;
 use test_support::{hex_byte, print, print_field, print_number};
 

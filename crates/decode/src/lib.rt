@@ -1,4 +1,5 @@
 // The decoder: the low nibble's ranges, then the rows.
+#![tactic(auto)]
 ghost use Rattle.std.specs.Prelude.{◌≡◌, ◌/◌};
 ghost use Rattle.isa.specs.Map.{column7, row_column, column_f, cell_of, cell_names};
 ghost use Rattle.isa.specs.Map.Cell.{ldc_load_long, ldc_store_long};

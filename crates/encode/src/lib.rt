@@ -1,4 +1,5 @@
 // The encoder.
+#![tactic(auto)]
 ghost use Rattle.std.specs.Prelude.{◌≡◌, length};
 ghost use Rattle.encode.specs.Encode.{size_of, encode_answer, encode_into};
 ghost use Rattle.encode.specs.Answer.{encoded};

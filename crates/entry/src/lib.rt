@@ -1,5 +1,6 @@
 // A state without its registers, what a step leaves, and the interrupt entry: which requests act, when an entry is due, and what it does, on
 // registers in place. The functions are for the crates `step` and `machine`.
+#![tactic(auto)]
 ghost use Rattle.std.specs.Prelude.{◌≡◌, ◌*◌, ◌/◌, false};
 ghost use Rattle.semantics.specs.Step.{acting_requests, entry_due, enter_of};
 ghost use Rattle.semantics.specs.Setup.{setup_of};

@@ -1,6 +1,7 @@
 // What each action does, on registers in place: one function for each kind of action, and the choice among them. Of the flags that it computes
 // those are set which the decoder named.
 // The functions are for the crate `step`, which makes steps of them.
+#![tactic(auto)]
 ghost use Rattle.std.specs.Prelude.{◌≡◌, true};
 ghost use Rattle.base.specs.Choice.{pick};
 ghost use Rattle.chip.specs.Interrupts.{set_interrupts_of};

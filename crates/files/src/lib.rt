@@ -1,4 +1,5 @@
 // Reads an image file and a certificate file, and writes the text of their judgement. What is wrong in a file is told on a descriptor.
+#![tactic(auto)]
 mod tell;
 
 ghost use Rattle.std.specs.Prelude.{◌≡◌, ◌<◌};

@@ -1,4 +1,5 @@
 // Compares the flags that the decoder names with those of the file flags.txt, a line for each first byte, and prints what differs.
+#![tactic(auto)]
 use decode::decode;
 use isa::{Decoded, Flag, FlagSet};
 use test_support::{Case, Counts, hex_byte, print, put, read_line, store};

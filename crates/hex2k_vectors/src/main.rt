@@ -1,4 +1,5 @@
 // Runs the HEX readers and the writer on worked examples and on the cases of the file hex2k.bin, for the 2K part, and prints what differs.
+#![tactic(auto)]
 use base::{IMAGE_2K, IMAGE_4K, Profile};
 use hex_write::{TEXT_LENGTH_2K, TEXT_LENGTH_4K};
 use test_support::{print, print_number};

@@ -1,4 +1,5 @@
 // What the programs over HEX cases share: the readers and the writer on examples and on the cases of a file, for the image of a part.
+#![tactic(auto)]
 ghost use Rattle.std.specs.Prelude.{◌<◌, ◌≤◌, length};
 
 use base::{IMAGE_4K, Profile};

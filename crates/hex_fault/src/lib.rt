@@ -1,4 +1,5 @@
 // What was found in a refused line of Intel HEX, and what should stand there.
+#![tactic(auto)]
 ghost use Rattle.std.specs.Prelude.{◌≡◌, ◌+◌, ◌-◌, ◌<◌, ◌≤◌, length, drop};
 ghost use Rattle.hex_line.specs.Record.{body_of};
 ghost use Rattle.hex_fault.specs.Finding.{digits_from, called_for, wrong_count, malformed, last_pair, bad_sum, field_finding, line_finding, refusal_finding, finding_of};

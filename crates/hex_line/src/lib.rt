@@ -1,4 +1,5 @@
 // Reads one line of Intel HEX into a lent image or certificate.
+#![tactic(auto)]
 ghost use Rattle.std.specs.Prelude.{◌≡◌, ◌+◌, ◌*◌, ◌%◌, ◌<◌, ◌≤◌, ◌++◌, length, drop};
 ghost use Rattle.hex_line.specs.Record.{digit_of, joined, sum_of, parse_body, parsed_outcome, Small, body_length, body_of};
 ghost use Rattle.hex_line.specs.Sum.{AllPairs, total_of};

@@ -1,4 +1,5 @@
 // Reads Intel HEX: a whole lent text, or a file that is fed in pieces.
+#![tactic(auto)]
 ghost use Rattle.std.specs.Prelude.{◌≡◌, ◌+◌, ◌<◌, ◌≤◌, length, take, drop};
 ghost use Rattle.base.specs.Outcome.{and_then};
 ghost use Rattle.hex_line.specs.Line.{begun, read_line};

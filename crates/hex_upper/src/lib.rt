@@ -1,4 +1,5 @@
 // Converts an old line of Intel HEX, which may have small letters, into its upper-case line.
+#![tactic(auto)]
 ghost use Rattle.std.specs.Prelude.{◌≡◌, map, ◌≤◌, length};
 ghost use Rattle.hex_line.specs.Line.{checked_outcome};
 ghost use Rattle.hex_upper.specs.Former.{former_check};

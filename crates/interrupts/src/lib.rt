@@ -1,4 +1,5 @@
 // Interrupts on the register file: the enable bit SYM.2, pending requests, and the requests of a schedule record.
+#![tactic(auto)]
 ghost use Rattle.std.specs.Prelude.{◌≡◌};
 ghost use Rattle.chip.specs.Interrupts.{interrupts_enabled, set_interrupts_of, pending_edge, pending_any, raise_of, post_of};
 

@@ -1,5 +1,6 @@
 // Decodes and encodes one instruction of every first byte, with the flags that it names, and the examples of the answers 7, 8, 10, 11 and 12; tells
 // every first byte's length.
+#![tactic(auto)]
 use base::{IMAGE_4K, RegAddr, RomAddr, byte_at};
 use decode::decode;
 use encode::{Encoded, encode};

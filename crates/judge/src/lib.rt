@@ -1,4 +1,5 @@
 // The judgement of an image file and a certificate file that were read, and the buffers that they are read into.
+#![tactic(auto)]
 ghost use Rattle.std.specs.Prelude.{◌≡◌, length};
 ghost use Rattle.hex_text.specs.Text.{text_outcome};
 ghost use Rattle.hex_write.specs.ImageText.{written_outcome};

@@ -1,5 +1,6 @@
 // Checks of certificates and HEX texts, to be timed: `judge_bench WHAT`. The argument is one digit, 0 for everything. `bench/run` times it and prints a
 // table; the gate compares what is printed.
+#![tactic(auto)]
 mod certificates;
 mod texts;
 

@@ -1,5 +1,6 @@
 // Makes schedules from seeds: published states, every length from 0 to 17, and the cases of the file sched.txt, and prints what differs.
 // A line of the file: seed, number of records, their digits, the state behind them; or seed, number of records, and the number of the refusal.
+#![tactic(auto)]
 use base::RECORD_LENGTH;
 use test_support::{Case, Counts, print, print_number, put};
 use xorshift::Filled;

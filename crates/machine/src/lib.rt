@@ -1,4 +1,5 @@
 // The machine: reset, one step under a schedule record, and a run over a schedule, with or without a coverage map.
+#![tactic(auto)]
 ghost use Rattle.std.specs.Prelude.{◌≡◌, ◌/◌, length, true};
 ghost use Rattle.semantics.specs.Reset.{reset_state, IsReset};
 ghost use Rattle.base.specs.Lengths.{record_length};

@@ -1,6 +1,7 @@
 // Runs of the machine, to be timed: `machine_bench WHAT COUNT SEED`. The first argument is the row, 0 for all, the second is thousands of records.
 // Every run's schedule is the first 1,000 records that the seed gives, over and over, so that making them takes no time of it.
 // `bench/run` times it and prints a table; the gate's run is short and compares what each program leaves.
+#![tactic(auto)]
 use base::{IMAGE_4K, Profile};
 use bench_programs::{SCHEDULE, make_part, program, schedule, tell};
 use semantics::{Configuration, State};

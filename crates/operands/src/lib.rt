@@ -1,5 +1,6 @@
 // Operands, words and FLAGS on registers in place, and how an action goes on.
 // The functions are for the crates above, which make actions and interrupt entries of them.
+#![tactic(auto)]
 ghost use Rattle.std.specs.Prelude.{◌≡◌, ◌+◌, ◌*◌, ◌%◌};
 ghost use Rattle.base.specs.Addresses.{reg_addr};
 ghost use Rattle.base.specs.Choice.{pick};

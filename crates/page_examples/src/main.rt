@@ -2,6 +2,7 @@
 // among them, and compares what the machine leaves with what the page prints. The form of the file is told at its head. Everything that an
 // example does not name has to stay as it was: all 256 registers, program counter, mode, cycle total and refusal are compared. What a page
 // leaves open (RAM, FLAGS, SP) is tried as all zeros and as all ones.
+#![tactic(auto)]
 ghost use Rattle.std.specs.Prelude.{◌<◌};
 
 use base::{FLAGS_INDEX, IMAGE_4K, Profile, RECORD_LENGTH, RomAddr, SP, SP_INDEX, byte_at};

@@ -1,4 +1,5 @@
 // The text that `bridgecheck` prints of a verdict.
+#![tactic(auto)]
 ghost use Rattle.std.specs.Prelude.{◌≡◌, ◌+◌, ◌<◌, ◌≤◌, [], ◌∷◌, length};
 ghost use Rattle.certificate.specs.Layout.{certificate_of};
 ghost use Rattle.hex_write.specs.ImageText.{written_outcome};

@@ -1,4 +1,5 @@
 // Runs the program in `image.hex` from reset for 100 steps, and prints where it is then.
+#![tactic(auto)]
 use base::{IMAGE_4K, Profile, RECORD_LENGTH};
 use hex_text::Text;
 use libc::STDOUT_FILENO;

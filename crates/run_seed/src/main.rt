@@ -1,6 +1,7 @@
 // Runs the program in `image.hex` from reset over the records that a seed gives, `run_seed SEED RECORDS [PART]`, and prints what the run leaves and which
 // code it reached: whoever has the files, the seed and the number of records gets the same text. The part is 4K or 2K, 4K if it is not named. The cycles
 // of an interrupt entry and the starts of instructions are those of `cert.hex`; without that file an entry takes none.
+#![tactic(auto)]
 use base::{IMAGE_2K, IMAGE_4K, LONG_CERTIFICATE_LENGTH, Profile, RECORD_LENGTH, RomAddr};
 use coverage::{Map, WORDS};
 use hex_text::Text;

@@ -1,6 +1,7 @@
 // Compares `machine::run_covered` and `machine::run` with the cases of the file `runs.bin`, and prints what differs. A case is a configuration; edits of an
 // image of FFH, as long as its part has it; a state; records; and what a run over them leaves from an empty map. From the marks that it leaves, and from all marks, it must add none.
 // Images and maps of other lengths come first.
+#![tactic(auto)]
 use base::{IMAGE_2K, IMAGE_4K, Profile, RECORD_LENGTH};
 use coverage::{Map, WORDS};
 use machine_states::{

@@ -1,5 +1,6 @@
 // The types of the machine: its state, and what a step, a run and an instruction leave. Their meaning is in specs/; the code is in the crates
 // from `operands` to `machine`.
+#![tactic(auto)]
 use base::{Profile, RegAddr, RomAddr};
 use chip::Registers;
 

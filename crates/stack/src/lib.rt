@@ -1,5 +1,6 @@
 // The stack on registers in place: pushes, and the actions that push or pop.
 // The functions are for the crates above, which make instructions and interrupt entries of them.
+#![tactic(auto)]
 ghost use Rattle.std.specs.Prelude.{◌≡◌};
 ghost use Rattle.semantics.specs.Operands.{lowered, raised, store_top, push_of, push_address};
 ghost use Rattle.semantics.specs.Execute.{push_operand, pop_operand, call_of, call_pair_of, return_of, interrupt_return_of};

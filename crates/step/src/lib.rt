@@ -1,5 +1,6 @@
 // One step under a schedule record, with its registers in place, in two halves: it acts, and then it settles. The crate `machine` makes steps of
 // whole states and runs of it.
+#![tactic(auto)]
 ghost use Rattle.std.specs.Prelude.{◌≡◌, ℕ, List};
 ghost use Rattle.isa.specs.Answer.{decoded};
 ghost use Rattle.base.specs.Choice.{pick};

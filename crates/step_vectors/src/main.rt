@@ -1,4 +1,5 @@
 // Compares `machine::step` with the cases of the file `steps.bin`. ROM, as long as the case's part has it, is FFH where a case gives no byte.
+#![tactic(auto)]
 use base::{IMAGE_4K, RECORD_LENGTH};
 use machine_states::{
     CONFIGURATION_LENGTH, STATE_LENGTH, configuration_of, image_for, is_configuration,

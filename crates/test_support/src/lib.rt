@@ -1,5 +1,6 @@
 // What the test programs and the benchmarks share: bytes into a slice and out of it, hexadecimal and decimal digits, lines, printing, the cases of a vector file, and
 // the arguments of a benchmark. In a vector file numbers are high byte first, and cases follow one another up to the file's end.
+#![tactic(auto)]
 ghost use Rattle.std.specs.Prelude.{◌≡◌, ◌+◌, ◌-◌, ◌*◌, ◌%◌, ◌≤◌, slice_set};
 ghost use Rattle.std.proofs.lemmas.List.Edits.{sets};
 ghost use Rattle.test_support.specs.Arguments.{with_digit, number_of, rows_of};

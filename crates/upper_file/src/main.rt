@@ -1,5 +1,6 @@
 // Copies Intel HEX from standard input to standard output, its lines in upper case. The first line that is refused is told of on standard error, by line
 // and number; it and what follows are copied as they are.
+#![tactic(auto)]
 ghost use Rattle.std.specs.Prelude.{◌≤◌, length};
 
 use hex_upper::Upper;

@@ -1,4 +1,5 @@
 // Converts old HEX lines to upper case, worked examples and the cases of the file upper.bin, and prints what differs.
+#![tactic(auto)]
 use base::IMAGE_4K;
 use hex_line::Line;
 use hex_upper::Upper;

@@ -1,4 +1,5 @@
 // Makes schedules by Marsaglia's 32-bit xorshift, so that a seed and a number of records stand for a whole schedule.
+#![tactic(auto)]
 ghost use Rattle.std.specs.Prelude.{◌≡◌, ◌++◌, ◌/◌, ◌%◌, ◌≤◌, length, drop};
 ghost use Rattle.base.specs.Lengths.{record_length};
 ghost use Rattle.xorshift.specs.Xorshift.{round, four_bytes, next_state, record_from, state_after, records_from, filled_outcome, taken, fill_answer, fill_buffer};
