@@ -188,6 +188,7 @@ const CYCLES: [u8; 256] = [
 ];
 
 // Whether a flag is in a set.
+#[tactic(auto, unfolding(crate::specs::Flags::flag_in))]
 pub fn names(set: FlagSet, flag: Flag) -> bool
     ensures { result ≡ flag_in flag set.0 }
 {

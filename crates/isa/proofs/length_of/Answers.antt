@@ -1,0 +1,9 @@
+-- The table of lengths is the map's 256 values in order, by one computation.
+-- Assumes nothing.
+use Rattle.std.proofs.Common.{refl, rules}
+use Rattle.base.specs.Table.{table_at}
+use Rattle.isa.specs.Map.{length_of}
+use Rattle.isa.proofs.length_of.Goals as goal
+
+pub returns : goal.returns
+returns c = table_at length_of 0 256 _ refl c.args.first (search rules)
