@@ -1,5 +1,6 @@
 // The S3F9454's instruction forms, the flags that they name, and each first byte's length and cycles.
 #![tactic(auto)]
+
 ghost use Rattle.std.specs.Prelude.{◌≡◌};
 ghost use Rattle.isa.specs.Flags.{flag_in};
 ghost use Rattle.isa.specs.Map.{length_of, cycles_of};

@@ -51,6 +51,7 @@ fn cycle_word(row: u8) -> u64
 }
 
 // The length of an instruction with this first byte, or 0.
+#[tactic(auto, using(crate::proofs::Packed::length_at))]
 pub fn length(first: u8) -> u8
     ensures { result ≡ length_of first }
 {
@@ -59,6 +60,7 @@ pub fn length(first: u8) -> u8
 }
 
 // Its cycles, or 0.
+#[tactic(auto, using(crate::proofs::Packed::cycles_at))]
 pub fn cycles(first: u8) -> u8
     ensures { result ≡ cycles_of first }
 {
