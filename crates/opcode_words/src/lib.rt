@@ -1,5 +1,6 @@
 // Length and cycles by the first byte, read from one number a row: what a step uses in place of the tables of `isa`, which are copied at each use.
 #![tactic(auto)]
+
 ghost use Rattle.std.specs.Prelude.{◌≡◌};
 ghost use Rattle.isa.specs.Map.{length_of, cycles_of};
 ghost use Rattle.opcode_words.specs.Words.{length_word, cycle_word};
