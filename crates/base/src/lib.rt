@@ -9,11 +9,11 @@ ghost use Rattle.base.specs.Lengths.{largest_rom, is_certificate_length, is_entr
 ghost use Rattle.base.specs.Parts.{part_of, is_image_length};
 
 // An address of the register file, 00H to FFH.
-#[derive(Drop)]
+#[derive(Clone, Copy)]
 pub struct RegAddr(pub u8);
 
 // An address of program memory.
-#[derive(Drop)]
+#[derive(Clone, Copy)]
 pub struct RomAddr(pub u16);
 
 // The addresses of FLAGS, SP and SYM (interrupt enable).
@@ -33,7 +33,7 @@ pub const SYM_INDEX: usize = SYM as usize;
 pub const STOPCON_INDEX: usize = 0xF4;
 
 // A part of the family, by the bytes of its ROM: the S3F9454 has 4K, the S3C9444 2K.
-#[derive(Drop)]
+#[derive(Clone, Copy)]
 pub enum Profile {
     Rom4K,
     Rom2K,

@@ -1,5 +1,6 @@
 // Columns 0 to 6 of the opcode map.
 #![tactic(auto)]
+
 ghost use Rattle.std.specs.Prelude.{◌≡◌};
 ghost use Rattle.isa.specs.Map.{alu_row, unary_row, unary_column, alu_column, alu_cell, other_cell, alu_names, unary_names};
 ghost use Rattle.isa.specs.Map.Cell.{call_at, jump_at};

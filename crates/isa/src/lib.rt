@@ -8,7 +8,7 @@ ghost use Rattle.isa.specs.Map.{length_of, cycles_of};
 use base::{RegAddr, RomAddr};
 
 // Operations on two bytes: rows of columns 2 to 6 of table 6-5.
-#[derive(Drop)]
+#[derive(Clone, Copy)]
 pub enum Alu {
     Add,
     Adc,
@@ -23,7 +23,7 @@ pub enum Alu {
 }
 
 // Operations on one byte: rows of columns 0 and 1.
-#[derive(Drop)]
+#[derive(Clone, Copy)]
 pub enum Unary {
     Dec,
     Rlc,
@@ -37,7 +37,7 @@ pub enum Unary {
 }
 
 // Instructions without an operand: rows of column F.
-#[derive(Drop)]
+#[derive(Clone, Copy)]
 pub enum Implied {
     Idle,
     Stop,
@@ -52,7 +52,7 @@ pub enum Implied {
 }
 
 // What a row of columns 0 and 1 holds.
-#[derive(Drop)]
+#[derive(Clone, Copy)]
 pub enum UnaryRow {
     Op(Unary),
     Pop,
@@ -61,7 +61,7 @@ pub enum UnaryRow {
 }
 
 // What a row of columns 2 to 6 holds.
-#[derive(Drop)]
+#[derive(Clone, Copy)]
 pub enum AluRow {
     Op(Alu),
     Other,
@@ -70,7 +70,7 @@ pub enum AluRow {
 // An instruction with its operands, destination first. `Work` is a working register, `Reg` a register address, `Imm` a number, and `At`
 // marks an operand that a register points to. A working register, a pair and a condition are the numbers 0 to 15 in a `u8`; a wider one
 // is refused when it is encoded. Of the LDC group the pair is kept as it is coded: an odd one means LDE.
-#[derive(Drop)]
+#[derive(Clone, Copy)]
 pub enum Instruction {
     UnaryReg(Unary, RegAddr),
     UnaryAt(Unary, RegAddr),
@@ -115,7 +115,7 @@ pub enum Instruction {
 }
 
 // The four flags of FLAGS: C, Z, S, V.
-#[derive(Drop)]
+#[derive(Clone, Copy)]
 pub enum Flag {
     Carry,
     Zero,
@@ -124,7 +124,7 @@ pub enum Flag {
 }
 
 // A set of flags, by their bits in FLAGS: C is 80H, Z 40H, S 20H, V 10H.
-#[derive(Drop)]
+#[derive(Clone, Copy)]
 pub struct FlagSet(pub u8);
 
 pub const NO_FLAGS: FlagSet = FlagSet(0);
@@ -138,7 +138,7 @@ pub const ALL_FLAGS: FlagSet = FlagSet(0xF0);
 
 // What decoding answers: an instruction, its length, and the flags that it names: those that it may change. Or 10, not wholly there; 11,
 // undefined; 12, an odd pair for JP or CALL.
-#[derive(Drop)]
+#[derive(Clone, Copy)]
 pub enum Decoded {
     Found(Instruction, u8, FlagSet),
     CutOff,
