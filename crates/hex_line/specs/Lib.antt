@@ -1,10 +1,4 @@
 pub mod Record
 pub mod Line
-pub mod Cases
-pub mod LineLaws
-pub mod Refusals
 pub mod Sum
-pub mod SumLaws
 pub mod Pairs
-pub mod PairLaws
-pub mod ParseLaws

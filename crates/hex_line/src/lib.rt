@@ -1,5 +1,6 @@
 // Reads one line of Intel HEX into a lent image or certificate.
 #![tactic(auto)]
+
 ghost use Rattle.std.specs.Prelude.{◌≡◌, ◌+◌, ◌*◌, ◌%◌, ◌<◌, ◌≤◌, ◌++◌, length, drop};
 ghost use Rattle.hex_line.specs.Record.{digit_of, joined, sum_of, parse_body, parsed_outcome, Small, body_length, body_of};
 ghost use Rattle.hex_line.specs.Sum.{AllPairs, total_of};
@@ -7,14 +8,14 @@ ghost use Rattle.hex_line.specs.Pairs.{Kept, count_in, address_in, fields_in, st
 ghost use Rattle.hex_line.specs.Line.{buffer_length, begun, fault_number, line_outcome, checked_outcome, check_fields, check_body, place_fields, read_fields, read_line, line_buffer};
 
 // Where the last record ended, and whether the end line was read.
-#[derive(Drop)]
+#[derive(Clone, Copy)]
 pub struct Reader {
     pub next: usize,
     pub ended: bool,
 }
 
 // The refusals 1 to 7.
-#[derive(Drop)]
+#[derive(Clone, Copy)]
 pub enum Fault {
     Malformed,
     BadSum,
@@ -26,21 +27,21 @@ pub enum Fault {
 }
 
 // A line that was read, with the reader behind it; or a refusal.
-#[derive(Drop)]
+#[derive(Clone, Copy)]
 pub enum Line {
     Read(Reader),
     Refused(Fault),
 }
 
 // A line that breaks none of 1 to 3; or the first that it breaks.
-#[derive(Drop)]
+#[derive(Clone, Copy)]
 pub enum Checked {
     Right,
     Refused(Fault),
 }
 
 // The fields of a well-formed line: number of data bytes, address, record type, and the sum of all bytes modulo 256.
-#[derive(Drop)]
+#[derive(Clone, Copy)]
 pub struct Fields {
     pub count: usize,
     pub address: usize,
@@ -49,7 +50,7 @@ pub struct Fields {
 }
 
 // The fields of a well-formed line, or none.
-#[derive(Drop)]
+#[derive(Clone, Copy)]
 pub enum Parsed {
     Formed(Fields),
     Malformed,

@@ -8,7 +8,7 @@ use Rattle.base.specs.Outcome.{Outcome}
 use Rattle.base.specs.Outcome.Outcome.{value, refused}
 use Rattle.hex_line.specs.declared.Fields.{Fields}
 use Rattle.hex_line.specs.Record.{digit_of, joined, pair_at, added, sum_of, count_of, parse_body, fields_by, pair_by, sum_by}
-use Rattle.hex_line.specs.Cases.{parsed_has}
+use Rattle.hex_line.proofs.Cases.{parsed_has}
 use Rattle.hex_line.specs.Sum.{AllPairs, total_of}
 
 add_modulo : (t p : ℕ) → (t % 256 + p) % 256 ≡ (t + p) % 256

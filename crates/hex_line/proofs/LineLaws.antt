@@ -10,7 +10,7 @@ use Rattle.base.specs.Outcome.Outcome.{value, refused}
 use Rattle.hex_line.specs.declared.Reader.{Reader}
 use Rattle.hex_line.specs.declared.Fields.{Fields}
 use Rattle.hex_line.specs.Record.{pair_at, added, sum_of, data_of, count_of, address_of, fields_of, parse_body, body_of, data_by, fields_by, sum_by}
-use Rattle.hex_line.specs.Cases.{parsed_has, checked_has, placed_has}
+use Rattle.hex_line.proofs.Cases.{parsed_has, checked_has, placed_has}
 use Rattle.hex_line.specs.Line.{buffer_length, place_fields, read_fields, read_line, stored, line_buffer, buffer_by, read_by, stored_by}
 
 -- one more pair

@@ -8,8 +8,8 @@ use Rattle.hex_line.specs.declared.Reader.{Reader}
 use Rattle.hex_line.specs.declared.Fields.{Fields}
 use Rattle.hex_line.specs.Record.{fields_of, body_of}
 use Rattle.hex_line.specs.Line.{check_fields, check_body, check_by, read_line, stored, line_buffer, buffer_by}
-use Rattle.hex_line.specs.Cases.{parsed_has, checked_has}
-use Rattle.hex_line.specs.LineLaws.{within_line, read_within, length_stored}
+use Rattle.hex_line.proofs.Cases.{parsed_has, checked_has}
+use Rattle.hex_line.proofs.LineLaws.{within_line, read_within, length_stored}
 
 pub line_number : (reader : Reader) (size : ℕ) (line : List ℕ) (n : ℕ) → read_line reader size line ≡ refused n → (1 ≤ n) × (n ≤ 7)
 line_number reader size line n e = rw e at (within_line reader size line)

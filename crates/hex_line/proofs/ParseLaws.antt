@@ -14,8 +14,8 @@ use Rattle.hex_line.specs.declared.Fields.{Fields}
 use Rattle.hex_line.specs.Record.{digit_of, pair_at, sum_of, count_of, address_of, parse_body, address_by, count_by, fields_by, parse_by}
 use Rattle.hex_line.specs.Line.{stored, stored_by}
 use Rattle.hex_line.specs.Pairs.{Kept, count_in, address_in, fields_in, stored_from, KeptUnless}
-use Rattle.hex_line.specs.SumLaws.{sum_none, none_or_pair}
-use Rattle.hex_line.specs.PairLaws.{pair_none, pair_none_low, kept_data}
+use Rattle.hex_line.proofs.SumLaws.{sum_none, none_or_pair}
+use Rattle.hex_line.proofs.PairLaws.{pair_none, pair_none_low, kept_data}
 
 -- no colon; another length than the length byte calls for; a pair that is none
 pub refused_colon : (l : List ℕ) → get_or l 0 0 ≢ 58 → parse_body l ≡ refused 1

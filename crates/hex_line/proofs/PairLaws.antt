@@ -11,7 +11,7 @@ use Rattle.base.specs.Outcome.Outcome.{value, refused}
 use Rattle.base.specs.Table.{table_at}
 use Rattle.hex_line.specs.Record.{digit_of, pair_at, sum_of, data_of, count_of, data_by, pair_by}
 use Rattle.hex_line.specs.Sum.{AllPairs, total_of}
-use Rattle.hex_line.specs.SumLaws.{sum_none}
+use Rattle.hex_line.proofs.SumLaws.{sum_none}
 use Rattle.hex_line.specs.Pairs.{Kept, KeptUnless}
 
 -- a digit's value, and 16 of a character that is none
