@@ -8,7 +8,7 @@ use Rattle.base.specs.Outcome.{Outcome, and_then, on_outcome}
 use Rattle.base.specs.Outcome.Outcome.{value, refused}
 use Rattle.hex_line.specs.Record.{digit_of, pair_at, added, sum_of, count_of, parse_body, body_of, sum_by}
 use Rattle.hex_line.specs.Line.{buffer_length, place_fields, read_fields, read_line, read_by}
-use Rattle.hex_line.specs.Cases.{parsed_has, checked_has, placed_has}
+use Rattle.hex_line.proofs.Cases.{parsed_has, checked_has, placed_has}
 use Rattle.hex_line.specs.declared.Reader.{Reader}
 use Rattle.hex_line.specs.declared.Fields.{Fields}
 use Rattle.hex_fault.specs.declared.Finding.{Finding}

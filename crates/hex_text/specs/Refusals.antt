@@ -9,8 +9,8 @@ use Rattle.base.specs.ChoiceLaws.{pick_has}
 use Rattle.base.specs.Outcome.{Outcome, and_then, on_outcome}
 use Rattle.base.specs.Outcome.Outcome.{value, refused}
 use Rattle.hex_line.specs.Line.{buffer_length, begun, read_line, line_buffer}
-use Rattle.hex_line.specs.LineLaws.{numeral}
-use Rattle.hex_line.specs.Refusals.{line_number, length_line_buffer}
+use Rattle.hex_line.proofs.LineLaws.{numeral}
+use Rattle.hex_line.proofs.Refusals.{line_number, length_line_buffer}
 use Rattle.hex_line.specs.declared.Reader.{Reader}
 use Rattle.hex_text.specs.declared.Stream.{Stream}
 use Rattle.hex_text.specs.Text.{lines, end_answer, lines_answer, lines_buffer, text_answer, text_buffer}

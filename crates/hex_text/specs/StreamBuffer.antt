@@ -14,7 +14,7 @@ use Rattle.base.specs.Formula.{le?, same?}
 use Rattle.base.specs.Outcome.{Outcome}
 use Rattle.base.specs.Outcome.Outcome.{value, refused}
 use Rattle.hex_line.specs.Line.{begun, read_line, line_buffer}
-use Rattle.hex_line.specs.Refusals.{line_number, line_unchanged}
+use Rattle.hex_line.proofs.Refusals.{line_number, line_unchanged}
 use Rattle.hex_line.specs.declared.Reader.{Reader}
 use Rattle.hex_text.specs.Text.{onto_first, ended_lines, lines_buffer}
 use Rattle.hex_text.specs.TextLaws.{Plain, plain_append}

@@ -14,10 +14,10 @@ use Rattle.base.specs.Formula.{le?, same?}
 use Rattle.base.specs.Outcome.{Outcome, and_then, on_outcome}
 use Rattle.base.specs.Outcome.Outcome.{value, refused}
 use Rattle.hex_line.specs.Record.{parse_body, body_length, body_of}
-use Rattle.hex_line.specs.ParseLaws.{refused_long}
+use Rattle.hex_line.proofs.ParseLaws.{refused_long}
 use Rattle.hex_line.specs.Line.{buffer_length, begun, read_fields, read_line, line_buffer, read_by}
-use Rattle.hex_line.specs.LineLaws.{end_keeps}
-use Rattle.hex_line.specs.Refusals.{line_number, length_line_buffer}
+use Rattle.hex_line.proofs.LineLaws.{end_keeps}
+use Rattle.hex_line.proofs.Refusals.{line_number, length_line_buffer}
 use Rattle.hex_line.specs.declared.Reader.{Reader}
 use Rattle.hex_text.specs.declared.Stream.{Stream}
 use Rattle.hex_text.specs.Text.{lines, first_length, end_answer, lines_answer, lines_buffer, text_answer, text_buffer}

@@ -12,8 +12,8 @@ use Rattle.base.specs.Outcome.Outcome.{value, refused}
 use Rattle.hex_line.specs.declared.Reader.{Reader}
 use Rattle.hex_line.specs.Record.{body_length, body_of}
 use Rattle.hex_line.specs.Line.{buffer_length, begun, read_by, read_line}
-use Rattle.hex_line.specs.LineLaws.{read_parsed}
-use Rattle.hex_line.specs.ParseLaws.{refused_colon, refused_character}
+use Rattle.hex_line.proofs.LineLaws.{read_parsed}
+use Rattle.hex_line.proofs.ParseLaws.{refused_colon, refused_character}
 use Rattle.hex_text.specs.Text.{onto, lines, lines_answer, text_answer}
 use Rattle.hex_upper.specs.Former.{small_letter, NoSmall}
 use Rattle.hex_upper.specs.UpperLaws.{digit_none}

@@ -9,7 +9,7 @@ use Rattle.base.specs.Outcome.Outcome.{refused}
 use Rattle.hex_line.specs.declared.Reader.{Reader}
 use Rattle.hex_line.specs.Record.{digit_of, pair_by, sum_by, count_by, address_by, fields_by, data_by, parse_by, pair_at, sum_of, count_of, address_of, data_of, parse_body, body_length, body_of}
 use Rattle.hex_line.specs.Line.{check_by, read_by, stored_by, buffer_by, check_body, read_line, stored, line_buffer}
-use Rattle.hex_line.specs.ParseLaws.{refused_long}
+use Rattle.hex_line.proofs.ParseLaws.{refused_long}
 use Rattle.hex_upper.specs.Former.{small_letter, former_digit, former_check, former_line, former_buffer}
 use Rattle.hex_upper.specs.Upper.{upper_of}
 

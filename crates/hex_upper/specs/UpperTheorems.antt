@@ -11,8 +11,8 @@ use Rattle.hex_line.specs.declared.Reader.{Reader}
 use Rattle.hex_line.specs.declared.Fields.{Fields}
 use Rattle.hex_line.specs.Record.{pair_by, sum_by, count_by, address_by, fields_by, parse_by, body_length, body_of}
 use Rattle.hex_line.specs.Line.{buffer_length, check_fields, place_fields, read_fields, check_by, read_by, read_line, line_buffer}
-use Rattle.hex_line.specs.Cases.{placed_has}
-use Rattle.hex_line.specs.Refusals.{check_number}
+use Rattle.hex_line.proofs.Cases.{placed_has}
+use Rattle.hex_line.proofs.Refusals.{check_number}
 use Rattle.hex_upper.specs.Former.{small_letter, NoSmall, former_digit, former_line, former_buffer}
 use Rattle.hex_upper.specs.Upper.{upper_of, upper_answer, upper_line}
 use Rattle.hex_upper.specs.UpperLaws.{get_d_upper, body_length_upper, check_upper, read_upper, buffer_upper}

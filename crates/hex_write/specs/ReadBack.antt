@@ -20,7 +20,7 @@ use Rattle.base.specs.declared.Profile.{Profile}
 use Rattle.base.specs.declared.Profile.TheVariants.{Rom4K, Rom2K}
 use Rattle.hex_line.specs.Record.{digit_of, joined, pair_at, sum_of, data_of, parse_body, body_length, body_of, address_by, count_by, data_by, fields_by, pair_by, parse_by, sum_by}
 use Rattle.hex_line.specs.Line.{buffer_length, begun, read_line, line_buffer, buffer_by, read_by, stored_by}
-use Rattle.hex_line.specs.LineLaws.{sum_of_more}
+use Rattle.hex_line.proofs.LineLaws.{sum_of_more}
 use Rattle.hex_line.specs.declared.Reader.{Reader}
 use Rattle.hex_line.specs.declared.Fields.{Fields}
 use Rattle.hex_text.specs.Text.{lines, lines_answer, lines_buffer, text_answer, text_buffer}
