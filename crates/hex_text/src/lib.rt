@@ -1,5 +1,6 @@
 // Reads Intel HEX: a whole lent text, or a file that is fed in pieces.
 #![tactic(auto)]
+
 ghost use Rattle.std.specs.Prelude.{◌≡◌, ◌+◌, ◌<◌, ◌≤◌, length, take, drop};
 ghost use Rattle.base.specs.Outcome.{and_then};
 ghost use Rattle.hex_line.specs.Line.{begun, read_line};
@@ -9,7 +10,7 @@ ghost use Rattle.hex_text.specs.Stream.{longest, stream_of, started, long_number
 use hex_line::{Line, Reader};
 
 // The text was read to its end; or it is refused, by this number of the table of answers.
-#[derive(Drop)]
+#[derive(Clone, Copy)]
 pub enum Text {
     Read,
     Refused(u8),
@@ -111,7 +112,7 @@ pub fn read_text(text: &[u8], buffer: &mut [u8]) -> Text
 pub const LONGEST: usize = 523;
 
 // A file that is being read: the reader, the characters of the unfinished line, how many they are, and the number of the refusal, 0 while there is none.
-#[derive(Drop)]
+#[derive(Clone, Copy)]
 pub struct Stream {
     pub reader: Reader,
     pub held: [u8; LONGEST],
