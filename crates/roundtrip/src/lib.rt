@@ -8,7 +8,7 @@ use isa::Decoded;
 
 // What copying an instruction answers: the number of bytes copied; or 7, the buffer is too short; 10, not wholly there; 11, undefined; 12, an
 // odd pair for JP or CALL.
-#[derive(Drop)]
+#[derive(Clone, Copy)]
 pub enum Copied {
     Done(u8),
     Short,
