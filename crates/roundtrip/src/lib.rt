@@ -1,6 +1,7 @@
 // Decoding and then encoding restores the bytes: the law is `round_trip` of specs/RoundTrip.antt, and `encoded_decodes` of
 // specs/EncodedDecodes.antt is its converse.
 #![tactic(auto)]
+
 ghost use Rattle.std.specs.Prelude.{◌≡◌, length};
 ghost use Rattle.roundtrip.specs.Copy.{copied, copy_answer, copy_into};
 
