@@ -1,5 +1,6 @@
 // An instruction's bytes as a value, and those of its operands that can be refused.
 #![tactic(auto)]
+
 ghost use Rattle.std.specs.Prelude.{◌≡◌, [], ◌∷◌, ◌/◌, ◌%◌};
 ghost use Rattle.coded.specs.Operands.{nibble_pair, nibbles, even_pair, long_offset};
 ghost use Rattle.coded.specs.Answer.{joined, coded};
@@ -7,7 +8,7 @@ ghost use Rattle.coded.specs.Answer.{joined, coded};
 use base::RegAddr;
 
 // An instruction's bytes, or 8 or 12.
-#[derive(Drop)]
+#[derive(Clone, Copy)]
 pub enum Coded {
     One(u8),
     Two(u8, u8),
@@ -18,7 +19,7 @@ pub enum Coded {
 }
 
 // Two numbers as the halves of a byte, or 8.
-#[derive(Drop)]
+#[derive(Clone, Copy)]
 enum Joined {
     Byte(u8),
     TooWide,

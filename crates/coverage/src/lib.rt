@@ -1,6 +1,7 @@
 // The coverage map of a run: one bit per byte of ROM in 64 words of 64 bits, ascending from the first word's lowest bit, set where an instruction
 // began.
 #![tactic(auto)]
+
 ghost use Rattle.std.specs.Prelude.{◌≡◌};
 ghost use Rattle.coverage.specs.Map.{with_mark, marked_count};
 

@@ -1,5 +1,6 @@
 // The decoder: the low nibble's ranges, then the rows.
 #![tactic(auto)]
+
 ghost use Rattle.std.specs.Prelude.{◌≡◌, ◌/◌};
 ghost use Rattle.isa.specs.Map.{column7, row_column, column_f, cell_of, cell_names};
 ghost use Rattle.isa.specs.Map.Cell.{ldc_load_long, ldc_store_long};
@@ -12,7 +13,7 @@ use columns::{alu_column, unary_column};
 use isa::{ALL_FLAGS, CARRY_FLAG, Decoded, FlagSet, Implied, Instruction, NO_FLAGS, RESULT_FLAGS};
 
 // What a row of column F holds: an instruction, and the flags that it names.
-#[derive(Drop)]
+#[derive(Clone, Copy)]
 enum ImpliedRow {
     Op(Implied, FlagSet),
     Other,

@@ -34,7 +34,7 @@ use Rattle.encode.specs.Laws.{TooWideOrOdd}
 use Rattle.encode.specs.Refusals.{encode_number, encode_unchanged, length_encode_into}
 use Rattle.roundtrip.specs.RoundTrip.{re_encoded}
 use Rattle.roundtrip.specs.Copy.{copy_answer, copy_into}
-use Rattle.roundtrip.specs.Refusals.{copy_number, copy_unchanged, length_copy_into}
+use Rattle.roundtrip.proofs.Refusals.{copy_number, copy_unchanged, length_copy_into}
 use Rattle.semantics.specs.declared.State.{State}
 use Rattle.semantics.specs.Setup.{Setup}
 use Rattle.semantics.specs.Step.{valid_machine, step_of}

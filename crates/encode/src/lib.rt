@@ -1,5 +1,6 @@
 // The encoder.
 #![tactic(auto)]
+
 ghost use Rattle.std.specs.Prelude.{◌≡◌, length};
 ghost use Rattle.encode.specs.Encode.{size_of, encode_answer, encode_into};
 ghost use Rattle.encode.specs.Answer.{encoded};
@@ -10,7 +11,7 @@ use isa::Instruction;
 
 // What encoding into a buffer answers: the number of bytes written; or 7, the buffer is too short; 8, a field is too wide; 12, an odd pair
 // for JP or CALL.
-#[derive(Drop)]
+#[derive(Clone, Copy)]
 pub enum Encoded {
     Done(u8),
     Short,

@@ -1,5 +1,6 @@
 // The bytes of each instruction.
 #![tactic(auto)]
+
 ghost use Rattle.std.specs.Prelude.{◌≡◌, [], ◌∷◌, ◌<◌, ◌/◌, ◌%◌};
 ghost use Rattle.coded.specs.Answer.{coded};
 ghost use Rattle.instruction_bytes.specs.Bytes.{alu_code, unary_code, implied_code, lde_bit, in_row, bytes_of};

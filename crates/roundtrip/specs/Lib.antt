@@ -1,4 +1,3 @@
 pub mod Copy
 pub mod EncodedDecodes
-pub mod Refusals
 pub mod RoundTrip

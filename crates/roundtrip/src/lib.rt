@@ -1,6 +1,7 @@
 // Decoding and then encoding restores the bytes: the law is `round_trip` of specs/RoundTrip.antt, and `encoded_decodes` of
 // specs/EncodedDecodes.antt is its converse.
 #![tactic(auto)]
+
 ghost use Rattle.std.specs.Prelude.{◌≡◌, length};
 ghost use Rattle.roundtrip.specs.Copy.{copied, copy_answer, copy_into};
 
@@ -8,7 +9,7 @@ use isa::Decoded;
 
 // What copying an instruction answers: the number of bytes copied; or 7, the buffer is too short; 10, not wholly there; 11, undefined; 12, an
 // odd pair for JP or CALL.
-#[derive(Drop)]
+#[derive(Clone, Copy)]
 pub enum Copied {
     Done(u8),
     Short,

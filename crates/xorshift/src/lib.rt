@@ -7,7 +7,7 @@ ghost use Rattle.xorshift.specs.Xorshift.{round, four_bytes, next_state, record_
 use base::RECORD_LENGTH;
 
 // The state behind the records that were made; or a refusal by 7.
-#[derive(Drop)]
+#[derive(Clone, Copy)]
 pub enum Filled {
     State(u32),
     Refused(u8),
