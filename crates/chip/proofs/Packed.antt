@@ -1,9 +1,6 @@
 -- What the packed numbers hold is what the definitions say, at all 256 addresses, by one computation each.
 -- Assumes nothing.
-use mathlib.Core.Path.{◌≡◌, refl}
-use mathlib.Core.Bool.{Bool, true}
-use Prim.Native.Nat.{ℕ, ◌%◌, ◌/◌, ◌*◌, ◌-◌, ◌^◌, ◌<◌}
-use lib.Dec.{eqb, ltb}
+use Rattle.std.specs.Prelude.{◌≡◌, refl, Bool, true, ℕ, ◌%◌, ◌/◌, ◌*◌, ◌-◌, ◌^◌, ◌<◌, eqb, ltb}
 use Rattle.base.specs.Choice.{pick}
 use Rattle.base.specs.Table.{agree}
 use Rattle.chip.specs.Registers.{kept_bits, mapped_of}

@@ -1,5 +1,6 @@
 // The register file: which addresses are mapped, a step's inputs, what a read gives, what a write leaves, reset.
 #![tactic(auto)]
+
 ghost use Rattle.std.specs.Prelude.{◌≡◌};
 ghost use Rattle.base.specs.Choice.{pick};
 ghost use Rattle.chip.specs.Registers.{kept_bits, mapped_of, inputs_of, grounded_now, load_of, written_f7, written_of, kept_of, store_of};
@@ -68,6 +69,7 @@ fn kept_word(k: u8) -> u64
 }
 
 // The bits that address n keeps.
+#[tactic(auto, using(crate::proofs::Packed::kept_at))]
 fn kept_bits(n: u8) -> u8
     ensures { result ≡ kept_bits n }
 {
@@ -76,6 +78,7 @@ fn kept_bits(n: u8) -> u8
 }
 
 // Whether the A/D input that ADCON selects is grounded.
+#[tactic(auto, unfolding(crate::specs::Registers::grounded_now))]
 fn grounded_now(regs: &Registers, rec: &Inputs) -> bool
     ensures { result ≡ grounded_now regs.now rec.now }
 {
@@ -90,6 +93,7 @@ fn converted(regs: &Registers, rec: &Inputs, v: u8) -> u8
 }
 
 // What a step with inputs rec reads at a.
+#[tactic(auto, unfolding(crate::specs::Registers::load_of))]
 pub fn load(regs: &Registers, rec: &Inputs, a: RegAddr) -> u8
     ensures { result ≡ load_of regs.now rec.now a.0 }
 {
@@ -121,6 +125,7 @@ fn written_f7(old: u8, v: u8) -> u8
 }
 
 // What a write of v asks for at control register n, which holds old.
+#[tactic(auto, unfolding(crate::specs::Registers::written_of))]
 fn written(n: u8, old: u8, v: u8) -> u8
     ensures { result ≡ written_of n old v }
 {
@@ -134,6 +139,7 @@ fn written(n: u8, old: u8, v: u8) -> u8
 }
 
 // What a write of v leaves at a, which holds old.
+#[tactic(auto, unfolding(crate::specs::Registers::kept_of))]
 fn kept(a: RegAddr, old: u8, v: u8) -> u8
     ensures { result ≡ kept_of a.0 old v }
 {
@@ -149,6 +155,7 @@ fn kept(a: RegAddr, old: u8, v: u8) -> u8
 }
 
 // Writes v at a.
+#[tactic(auto, unfolding(crate::specs::Registers::store_of))]
 pub fn store(regs: &mut Registers, a: RegAddr, v: u8)
     ensures { regs.new ≡ store_of regs.old a.0 v }
 {
@@ -158,6 +165,7 @@ pub fn store(regs: &mut Registers, a: RegAddr, v: u8)
 }
 
 // The registers at reset: table 8-1. What it leaves open (RAM, SP, the kept bits of FLAGS, F8H and F9H) is 0.
+#[tactic(auto, unfolding(crate::specs::Reset::reset_registers))]
 pub fn reset_registers() -> Registers
     ensures { result ≡ reset_registers }
 {
