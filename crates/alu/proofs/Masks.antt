@@ -1,7 +1,7 @@
 -- The masks of `update`: the bits of x that are named and those of FLAGS that are not, put together, are the four flags that the definition chooses.
 -- Assumes nothing.
 use Rattle.std.proofs.Common.{◌≡◌, ℕ, ◌<◌, Bool, true, false, not, ◌&&◌, ◌||◌, eqb, refl, eqb-true}
-use lib.Bits.{bit_and, bit_or, bit_xor}
+use Rattle.std.specs.Prelude.{bit_and, bit_or, bit_xor}
 use Rattle.base.specs.Choice.{pick}
 use Rattle.base.specs.Formula.{sound}
 use Rattle.base.specs.Formula.Formula.{test, forall_below}

@@ -91,16 +91,16 @@ not_in_none Zero = refl
 not_in_none Sign = refl
 not_in_none Overflow = refl
 
-by_flag : (g : Flag) (f : ℕ) (n : FlagSet) (x : ℕ)
+by_flag_lem : (g : Flag) (f : ℕ) (n : FlagSet) (x : ℕ)
     → by_flag g (updated Carry f n x) (updated Zero f n x) (updated Sign f n x) (updated Overflow f n x) ≡ updated g f n x
-by_flag Carry f n x = refl
-by_flag Zero f n x = refl
-by_flag Sign f n x = refl
-by_flag Overflow f n x = refl
+by_flag_lem Carry f n x = refl
+by_flag_lem Zero f n x = refl
+by_flag_lem Sign f n x = refl
+by_flag_lem Overflow f n x = refl
 
 pub update_flag : (g : Flag) (f : ℕ) (n : FlagSet) (x : ℕ) → flag_in g (update f n x) ≡ updated g f n x
 unfolding update
-update_flag g f n x = byte_flag g _ _ _ _ ∙ by_flag g f n x
+update_flag g f n x = byte_flag g _ _ _ _ ∙ by_flag_lem g f n x
 
 -- FLAGS is a byte, with 0 in bits 3 to 0
 pub update_bound : (f : ℕ) (n : FlagSet) (x : ℕ) → update f n x < 256

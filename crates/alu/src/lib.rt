@@ -1,5 +1,6 @@
 // Operations on bytes with their flags, and the FLAGS register.
 #![tactic(auto)]
+
 ghost use Rattle.std.specs.Prelude.{◌≡◌, ◌*◌, ◌%◌, ◌<◌, ◌≤◌};
 ghost use Rattle.base.specs.Choice.{pick};
 ghost use Rattle.alu.specs.Flags.{carry, zero_flag, sign_flag, overflow_flag, flags_byte, update};
@@ -23,24 +24,28 @@ fn weight(b: bool, w: u8) -> u8
 }
 
 // The flags of a FLAGS byte.
+#[tactic(auto, unfolding(crate::specs::Flags::carry, isa::specs::Flags::flag_in))]
 pub fn carry(flags: u8) -> bool
     ensures { result ≡ carry flags }
 {
     flags / 128 % 2 == 1
 }
 
+#[tactic(auto, unfolding(crate::specs::Flags::zero_flag, isa::specs::Flags::flag_in))]
 pub fn zero_flag(flags: u8) -> bool
     ensures { result ≡ zero_flag flags }
 {
     flags / 64 % 2 == 1
 }
 
+#[tactic(auto, unfolding(crate::specs::Flags::sign_flag, isa::specs::Flags::flag_in))]
 pub fn sign_flag(flags: u8) -> bool
     ensures { result ≡ sign_flag flags }
 {
     flags / 32 % 2 == 1
 }
 
+#[tactic(auto, unfolding(crate::specs::Flags::overflow_flag, isa::specs::Flags::flag_in))]
 pub fn overflow_flag(flags: u8) -> bool
     ensures { result ≡ overflow_flag flags }
 {
@@ -48,6 +53,7 @@ pub fn overflow_flag(flags: u8) -> bool
 }
 
 // The FLAGS byte with these flags.
+#[tactic(auto, unfolding(crate::specs::Flags::flags_byte))]
 pub fn flags_byte(c: bool, z: bool, s: bool, v: bool) -> u8
     ensures { result ≡ flags_byte c z s v }
 {
@@ -55,6 +61,7 @@ pub fn flags_byte(c: bool, z: bool, s: bool, v: bool) -> u8
 }
 
 // FLAGS once the flags that are named are as in x.
+#[tactic(auto, using(crate::proofs::Masks::masks), unfolding(crate::specs::Flags::update, crate::specs::Flags::updated))]
 pub fn update(flags: u8, names: FlagSet, x: u8) -> u8
     ensures { result ≡ update flags names x }
 {
@@ -63,6 +70,7 @@ pub fn update(flags: u8, names: FlagSet, x: u8) -> u8
 }
 
 // The signed value of a byte, plus 128.
+#[tactic(auto, unfolding(crate::specs::Operations::biased))]
 fn biased(x: u8) -> u16
     ensures value { result ≡ biased x }
     ensures bounded { result < 256 }
@@ -71,6 +79,7 @@ fn biased(x: u8) -> u16
 }
 
 // Whether a signed result, plus 256, leaves -128 to 127.
+#[tactic(auto, unfolding(crate::specs::Operations::overflows))]
 fn overflows(n: u16) -> bool
     ensures { result ≡ overflows n }
 {
@@ -78,6 +87,7 @@ fn overflows(n: u16) -> bool
 }
 
 // x + y + k, k at most 1; C is the carry out of bit 7.
+#[tactic(auto, unfolding(crate::specs::Operations::addition))]
 fn addition(x: u8, y: u8, k: u8) -> Computed
     requires { k ≤ 1 }
     ensures { result ≡ addition x y k }
@@ -93,6 +103,7 @@ fn addition(x: u8, y: u8, k: u8) -> Computed
 }
 
 // x - y - k, k at most 1; C is the borrow.
+#[tactic(auto, unfolding(crate::specs::Operations::subtraction))]
 fn subtraction(x: u8, y: u8, k: u8) -> Computed
     requires { k ≤ 1 }
     ensures { result ≡ subtraction x y k }
@@ -108,6 +119,7 @@ fn subtraction(x: u8, y: u8, k: u8) -> Computed
 }
 
 // A logical operation's result: V is 0; C, which it does not name, is 0 here and not used.
+#[tactic(auto, unfolding(crate::specs::Operations::logical))]
 fn logical(value: u8) -> Computed
     ensures { result ≡ logical value }
 {
@@ -118,6 +130,7 @@ fn logical(value: u8) -> Computed
 }
 
 // An operation on two bytes: x the destination's, y the source's, c the carry before.
+#[tactic(auto, unfolding(crate::specs::Operations::operate))]
 pub fn operate(op: Alu, x: u8, y: u8, c: bool) -> Computed
     ensures { result ≡ operate op x y c }
 {
@@ -136,6 +149,7 @@ pub fn operate(op: Alu, x: u8, y: u8, c: bool) -> Computed
 }
 
 // Whether it stores its value: TCM, TM and CP only set flags.
+#[tactic(auto, unfolding(crate::specs::Operations::stores))]
 pub fn stores(op: Alu) -> bool
     ensures { result ≡ stores op }
 {
@@ -154,6 +168,7 @@ pub fn stores(op: Alu) -> bool
 }
 
 // INC; C is not used.
+#[tactic(auto, unfolding(crate::specs::Operations::increment))]
 fn increment(x: u8) -> Computed
     ensures { result ≡ increment x }
 {
@@ -165,6 +180,7 @@ fn increment(x: u8) -> Computed
 }
 
 // DEC; C is not used.
+#[tactic(auto, unfolding(crate::specs::Operations::decrement))]
 fn decrement(x: u8) -> Computed
     ensures { result ≡ decrement x }
 {
@@ -176,6 +192,7 @@ fn decrement(x: u8) -> Computed
 }
 
 // A rotation of x that gives value: C is the bit that left; V where bit 7 changes.
+#[tactic(auto, unfolding(crate::specs::Operations::rotation))]
 fn rotation(x: u8, value: u8, c: bool) -> Computed
     ensures { result ≡ rotation x value c }
 {
@@ -186,6 +203,7 @@ fn rotation(x: u8, value: u8, c: bool) -> Computed
 }
 
 // SRA.
+#[tactic(auto, unfolding(crate::specs::Operations::shift_right))]
 fn shift_right(x: u8) -> Computed
     ensures { result ≡ shift_right x }
 {
@@ -205,6 +223,7 @@ fn doubled(x: u8) -> u8
 }
 
 // An operation on one byte, c being the carry before.
+#[tactic(auto, unfolding(crate::specs::Operations::modify))]
 pub fn modify(op: Unary, x: u8, c: bool) -> Computed
     ensures { result ≡ modify op x c }
 {
