@@ -1,5 +1,6 @@
 // What an instruction does, by the shape of its operands: the machine and the checker work on these kinds and not on 198 codes.
 #![tactic(auto)]
+
 ghost use Rattle.std.specs.Prelude.{◌≡◌};
 ghost use Rattle.action.specs.Action.{work_of, load_code, load_code_step, load_code_direct, implied_action, action_of};
 
@@ -120,6 +121,7 @@ fn implied_action(i: Implied) -> Action
 }
 
 // The action of an instruction; `next` is the address behind it.
+#[tactic(auto, unfolding(crate::specs::Action::action_of))]
 pub fn action_of(i: Instruction, next: RomAddr) -> Action
     ensures { result ≡ action_of i next }
 {
