@@ -1,11 +1,13 @@
 // The 16 conditions of a FLAGS byte.
 #![tactic(auto)]
+
 ghost use Rattle.std.specs.Prelude.{◌≡◌};
 ghost use Rattle.alu.specs.Flags.{condition_on, condition};
 
 use alu::{carry, overflow_flag, sign_flag, zero_flag};
 
 // The condition with this number, of C, Z, S, V.
+#[tactic(auto, unfolding(alu::specs::Flags::condition_on))]
 fn condition_on(number: u8, c: bool, z: bool, s: bool, v: bool) -> bool
     ensures { result ≡ condition_on number c z s v }
 {
@@ -31,6 +33,7 @@ fn condition_on(number: u8, c: bool, z: bool, s: bool, v: bool) -> bool
 }
 
 // The condition cc of a FLAGS byte; the low 4 bits of cc count.
+#[tactic(auto, unfolding(alu::specs::Flags::condition))]
 pub fn condition(cc: u8, flags: u8) -> bool
     ensures { result ≡ condition cc flags }
 {
