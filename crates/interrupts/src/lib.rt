@@ -1,5 +1,6 @@
 // Interrupts on the register file: the enable bit SYM.2, pending requests, and the requests of a schedule record.
 #![tactic(auto)]
+
 ghost use Rattle.std.specs.Prelude.{◌≡◌};
 ghost use Rattle.chip.specs.Interrupts.{interrupts_enabled, set_interrupts_of, pending_edge, pending_any, raise_of, post_of};
 
@@ -7,6 +8,7 @@ use base::{RegAddr, SYM_INDEX};
 use chip::Registers;
 
 // The interrupt enable, SYM.2.
+#[tactic(auto, unfolding(chip::specs::Interrupts::interrupts_enabled))]
 pub fn interrupts_enabled(regs: &Registers) -> bool
     ensures { result ≡ interrupts_enabled regs.now }
 {
@@ -14,6 +16,7 @@ pub fn interrupts_enabled(regs: &Registers) -> bool
 }
 
 // SYM.2 becomes on: EI, DI, interrupt entry, IRET.
+#[tactic(auto, unfolding(chip::specs::Interrupts::set_interrupts_of, chip::specs::Registers::store_of, chip::specs::Registers::kept_of, chip::specs::Registers::written_of, chip::specs::Registers::kept_bits))]
 pub fn set_interrupts(regs: &mut Registers, on: bool)
     ensures { regs.new ≡ set_interrupts_of regs.old on }
 {
@@ -25,6 +28,7 @@ pub fn set_interrupts(regs: &mut Registers, on: bool)
 }
 
 // An external source is enabled and pending.
+#[tactic(auto, unfolding(chip::specs::Interrupts::pending_edge))]
 pub fn pending_edge(regs: &Registers) -> bool
     ensures { result ≡ pending_edge regs.now }
 {
@@ -32,6 +36,7 @@ pub fn pending_edge(regs: &Registers) -> bool
 }
 
 // Any source is enabled and pending.
+#[tactic(auto, unfolding(chip::specs::Interrupts::pending_any))]
 pub fn pending_any(regs: &Registers) -> bool
     ensures { result ≡ pending_any regs.now }
 {
@@ -39,6 +44,7 @@ pub fn pending_any(regs: &Registers) -> bool
 }
 
 // Sets the bits at a, if on.
+#[tactic(auto, unfolding(chip::specs::Interrupts::raise_of))]
 fn raise(regs: &mut Registers, on: bool, a: RegAddr, bits: u8)
     ensures { regs.new ≡ raise_of regs.old on a.0 bits }
 {
@@ -50,6 +56,7 @@ fn raise(regs: &mut Registers, on: bool, a: RegAddr, bits: u8)
 }
 
 // The requests of a schedule record's byte 0.
+#[tactic(auto, unfolding(chip::specs::Interrupts::post_of, chip::specs::Interrupts::raise_of))]
 pub fn post(regs: &mut Registers, requests: u8)
     ensures { regs.new ≡ post_of regs.old requests }
 {
