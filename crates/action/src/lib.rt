@@ -10,7 +10,7 @@ use base::{RegAddr, RomAddr, displaced};
 use isa::{Alu, Implied, Instruction, Unary};
 
 // A byte operand: a register; the register that another one points to, with an offset; or a number.
-#[derive(Drop)]
+#[derive(Clone, Copy)]
 pub enum Operand {
     Register(RegAddr),
     Indirect(RegAddr, u8),
@@ -19,7 +19,7 @@ pub enum Operand {
 
 // An address of program memory in the LDC group: direct; or a register pair, high half first, with an offset that is signed (8 bits) or not
 // (16 bits).
-#[derive(Drop)]
+#[derive(Clone, Copy)]
 pub enum CodeAddress {
     Direct(RomAddr),
     Short(RegAddr, u8),
@@ -27,7 +27,7 @@ pub enum CodeAddress {
 }
 
 // What RCF, SCF and CCF do to C.
-#[derive(Drop)]
+#[derive(Clone, Copy)]
 pub enum CarryChange {
     Reset,
     Set,
@@ -35,7 +35,7 @@ pub enum CarryChange {
 }
 
 // An instruction's action, destination first.
-#[derive(Drop)]
+#[derive(Clone, Copy)]
 pub enum Action {
     Binary(Alu, Operand, Operand),
     Modify(Unary, Operand),

@@ -9,7 +9,7 @@ ghost use Rattle.alu.specs.Operations.{biased, overflows, addition, subtraction,
 use isa::{Alu, FlagSet, Unary};
 
 // An operation's result, and a FLAGS byte with its flags.
-#[derive(Drop)]
+#[derive(Clone, Copy)]
 pub struct Computed {
     pub value: u8,
     pub flags: u8,

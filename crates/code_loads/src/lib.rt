@@ -1,6 +1,7 @@
 // Loads from program memory on registers in place: LDC, LDCI and LDCD.
 // The functions are for the crate `execute`, which chooses among the actions.
 #![tactic(auto)]
+
 ghost use Rattle.std.specs.Prelude.{◌≡◌};
 ghost use Rattle.base.specs.Addresses.{rom_addr};
 ghost use Rattle.base.specs.Choice.{pick};
@@ -23,6 +24,7 @@ fn in_rom(image: &[u8], a: RomAddr, pc: RomAddr) -> Next
 }
 
 // The address that LDC reads.
+#[tactic(auto, unfolding(semantics::specs::Execute::code_address))]
 fn code_address(from: CodeAddress, regs: &Registers, rec: &Inputs) -> RomAddr
     ensures { result ≡ rom_addr (code_address from regs.now rec.now) }
 {
@@ -36,6 +38,7 @@ fn code_address(from: CodeAddress, regs: &Registers, rec: &Inputs) -> RomAddr
 }
 
 // LDC.
+#[tactic(auto, unfolding(semantics::specs::Execute::load_code_of))]
 pub fn load_code(
     d: RegAddr,
     from: CodeAddress,
@@ -60,6 +63,7 @@ fn unit(up: bool) -> u16
 }
 
 // A pair counts up or down.
+#[tactic(auto, unfolding(semantics::specs::Execute::stepped_pair))]
 fn step_pair(regs: &mut Registers, rec: &Inputs, p: RegAddr, up: bool)
     ensures { regs.new ≡ stepped_pair regs.old rec.now p.0 up }
 {
@@ -69,6 +73,7 @@ fn step_pair(regs: &mut Registers, rec: &Inputs, p: RegAddr, up: bool)
 }
 
 // LDCI, LDCD: the destination is loaded, then the pair is stepped as it then is.
+#[tactic(auto, unfolding(semantics::specs::Execute::load_code_step_of))]
 pub fn load_code_step(
     d: RegAddr,
     p: RegAddr,

@@ -1,6 +1,7 @@
 // A state without its registers, what a step leaves, and the interrupt entry: which requests act, when an entry is due, and what it does, on
 // registers in place. The functions are for the crates `step` and `machine`.
 #![tactic(auto)]
+
 ghost use Rattle.std.specs.Prelude.{◌≡◌, ◌*◌, ◌/◌, false};
 ghost use Rattle.semantics.specs.Step.{acting_requests, entry_due, enter_of};
 ghost use Rattle.semantics.specs.Setup.{setup_of};
@@ -11,7 +12,7 @@ use chip::Registers;
 use semantics::{Configuration, Mode, Next, State};
 
 // The state without the registers.
-#[derive(Drop)]
+#[derive(Clone, Copy)]
 pub struct Core {
     pub pc: RomAddr,
     pub mode: Mode,
@@ -47,7 +48,7 @@ pub fn core_of(s: State) -> Core
 
 // What a step leaves beside the registers; where it stops, the registers before it are to be put back. Beside that, whether an instruction began
 // and completed, and the cycles that elapse for the timers.
-#[derive(Drop)]
+#[derive(Clone, Copy)]
 pub struct Ended {
     pub core: Core,
     pub stop: u8,
@@ -56,6 +57,7 @@ pub struct Ended {
 }
 
 // The requests of byte 0 that act.
+#[tactic(auto, unfolding(semantics::specs::Step::acting_requests))]
 pub fn acting_requests(mode: Mode, b: u8) -> u8
     ensures { result ≡ acting_requests mode b }
 {
@@ -67,6 +69,7 @@ pub fn acting_requests(mode: Mode, b: u8) -> u8
 }
 
 // Whether an interrupt entry follows the requests.
+#[tactic(auto, unfolding(semantics::specs::Step::entry_due))]
 pub fn entry_due(regs: &Registers, mode: Mode) -> bool
     ensures { result ≡ entry_due regs.now mode }
 {
@@ -115,6 +118,7 @@ pub fn wait(s: Core, elapsed: u8) -> Ended
 }
 
 // What an instruction (retired) or an entry (not retired) leaves, at a cost.
+#[tactic(auto, unfolding(crate::specs::InPlace::finished))]
 pub fn finish(s: Core, next: Next, retired: bool, cost: u8) -> Ended
     ensures { result ≡ finished s next retired cost }
 {
@@ -139,6 +143,7 @@ fn kept_flags(flags: u8) -> u8
 }
 
 // An interrupt entry: the program counter and FLAGS are pushed, SYM.2 becomes 0, the vector is loaded. It costs what the configuration says.
+#[tactic(auto, unfolding(semantics::specs::Step::enter_of))]
 pub fn enter(configuration: Configuration, image: &[u8], s: Core, regs: &mut Registers) -> Ended
     ensures regs { regs.new ≡ (enter_of image.now regs.old s.pc).regs }
     ensures ended { result ≡ finished s (enter_of image.now regs.old s.pc).next false (setup_of configuration).entry_cost }

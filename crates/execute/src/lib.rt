@@ -2,6 +2,7 @@
 // those are set which the decoder named.
 // The functions are for the crate `step`, which makes steps of them.
 #![tactic(auto)]
+
 ghost use Rattle.std.specs.Prelude.{◌≡◌, true};
 ghost use Rattle.base.specs.Choice.{pick};
 ghost use Rattle.chip.specs.Interrupts.{set_interrupts_of};
@@ -15,6 +16,7 @@ use code_loads::{load_code, load_code_step};
 use isa::{Alu, FlagSet, Unary};
 use semantics::{Mode, Next};
 
+#[tactic(auto, unfolding(semantics::specs::Execute::store_if))]
 fn store_if(regs: &mut Registers, on: bool, a: RegAddr, v: u8)
     ensures { regs.new ≡ store_if regs.old on a v }
 {
@@ -24,6 +26,7 @@ fn store_if(regs: &mut Registers, on: bool, a: RegAddr, v: u8)
 }
 
 // ADD, ADC, SUB, SBC, OR, AND, XOR; TCM, TM, CP.
+#[tactic(auto, unfolding(semantics::specs::Execute::binary_of))]
 fn binary(
     op: Alu,
     d: Operand,
@@ -48,6 +51,7 @@ fn binary(
 }
 
 // INC, DEC, COM, CLR, RL, RLC, RR, RRC, SRA.
+#[tactic(auto, unfolding(semantics::specs::Execute::modify_of))]
 fn modify(
     op: Unary,
     d: Operand,
@@ -70,6 +74,7 @@ fn modify(
 }
 
 // LD.
+#[tactic(auto, unfolding(semantics::specs::Execute::load_into))]
 fn load(d: Operand, s: Operand, regs: &mut Registers, rec: &Inputs, pc: RomAddr) -> Next
     ensures regs { regs.new ≡ (load_into d s regs.old rec.now pc).regs }
     ensures next { result ≡ (load_into d s regs.old rec.now pc).next }
@@ -89,6 +94,7 @@ fn pick_address(on: bool, to: RomAddr, pc: RomAddr) -> RomAddr
 }
 
 // JP, JR.
+#[tactic(auto, unfolding(semantics::specs::Execute::jump_of))]
 fn jump(cc: u8, to: RomAddr, regs: &Registers, pc: RomAddr) -> Next
     ensures { result ≡ (jump_of cc to regs.now pc).next }
 {
@@ -98,6 +104,7 @@ fn jump(cc: u8, to: RomAddr, regs: &Registers, pc: RomAddr) -> Next
     )
 }
 
+#[tactic(auto, unfolding(semantics::specs::Execute::jump_pair_of))]
 fn jump_pair(p: RegAddr, regs: &Registers, rec: &Inputs) -> Next
     ensures { result ≡ (jump_pair_of p regs.now rec.now).next }
 {
@@ -108,6 +115,7 @@ fn jump_pair(p: RegAddr, regs: &Registers, rec: &Inputs) -> Next
 }
 
 // What RCF, SCF and CCF make of C.
+#[tactic(auto, unfolding(semantics::specs::Execute::carry_changed))]
 fn carry_changed(change: CarryChange, c: bool) -> bool
     ensures { result ≡ carry_changed change c }
 {
@@ -119,6 +127,7 @@ fn carry_changed(change: CarryChange, c: bool) -> bool
 }
 
 // RCF, SCF, CCF.
+#[tactic(auto, unfolding(semantics::specs::Execute::carry_of))]
 fn change_carry(change: CarryChange, names: FlagSet, regs: &mut Registers, pc: RomAddr) -> Next
     ensures regs { regs.new ≡ (carry_of change names regs.old pc).regs }
     ensures next { result ≡ (carry_of change names regs.old pc).next }
@@ -138,6 +147,7 @@ fn switch_interrupts(on: bool, regs: &mut Registers, pc: RomAddr) -> Next
 }
 
 // STOP waits where STOPCON is A5H, else it loads 0100H.
+#[tactic(auto, unfolding(semantics::specs::Execute::stop_of))]
 fn stop(regs: &Registers, pc: RomAddr) -> Next
     ensures { result ≡ (stop_of regs.now pc).next }
 {
@@ -163,6 +173,7 @@ fn external(pc: RomAddr) -> Next
 }
 
 // One instruction with the flags that it names; pc is the address behind it.
+#[tactic(auto, unfolding(semantics::specs::Execute::execute_of, semantics::specs::Execute::jump_of, semantics::specs::Execute::jump_pair_of, semantics::specs::Execute::stop_of))]
 pub fn execute(
     action: Action,
     names: FlagSet,

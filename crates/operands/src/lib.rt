@@ -1,6 +1,7 @@
 // Operands, words and FLAGS on registers in place, and how an action goes on.
 // The functions are for the crates above, which make actions and interrupt entries of them.
 #![tactic(auto)]
+
 ghost use Rattle.std.specs.Prelude.{◌≡◌, ◌+◌, ◌*◌, ◌%◌};
 ghost use Rattle.base.specs.Addresses.{reg_addr};
 ghost use Rattle.base.specs.Choice.{pick};
@@ -14,6 +15,7 @@ use isa::FlagSet;
 use semantics::{Fetched, Mode, Next, Place};
 
 // The place of an operand; a number has none.
+#[tactic(auto, unfolding(semantics::specs::Operands::place_of))]
 pub fn place_of(regs: &Registers, rec: &Inputs, o: Operand) -> Place
     ensures { result ≡ place_of regs.now rec.now o }
 {
@@ -37,6 +39,7 @@ pub fn place_of(regs: &Registers, rec: &Inputs, o: Operand) -> Place
 }
 
 // What stands at an operand's place.
+#[tactic(auto, unfolding(semantics::specs::Operands::fetch_place))]
 fn fetch_place(regs: &Registers, rec: &Inputs, p: Place) -> Fetched
     ensures { result ≡ fetch_place regs.now rec.now p }
 {
@@ -48,6 +51,7 @@ fn fetch_place(regs: &Registers, rec: &Inputs, p: Place) -> Fetched
 }
 
 // An operand's byte.
+#[tactic(auto, unfolding(semantics::specs::Operands::fetch_of))]
 pub fn fetch(regs: &Registers, rec: &Inputs, o: Operand) -> Fetched
     ensures { result ≡ fetch_of regs.now rec.now o }
 {
@@ -59,6 +63,7 @@ pub fn fetch(regs: &Registers, rec: &Inputs, o: Operand) -> Fetched
 }
 
 // The flags that an instruction names are set over FLAGS, as they are in x; where none is named FLAGS stays whole.
+#[tactic(auto, unfolding(semantics::specs::Operands::with_flags))]
 pub fn with_flags(regs: &mut Registers, names: FlagSet, x: u8)
     ensures { regs.new ≡ with_flags regs.old names x }
 {
@@ -84,12 +89,14 @@ pub fn word(high: u8, low: u8) -> u16
 }
 
 // The word at a register and the one behind it.
+#[tactic(auto, unfolding(semantics::specs::Operands::word_at))]
 pub fn word_at(regs: &Registers, rec: &Inputs, a: RegAddr) -> u16
     ensures { result ≡ word_at regs.now rec.now a.0 }
 {
     word(chip::load(regs, rec, a), chip::load(regs, rec, behind(a)))
 }
 
+#[tactic(auto, unfolding(semantics::specs::Operands::word_mapped))]
 pub fn word_mapped(a: RegAddr) -> bool
     ensures { result ≡ word_mapped a.0 }
 {

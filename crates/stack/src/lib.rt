@@ -1,6 +1,7 @@
 // The stack on registers in place: pushes, and the actions that push or pop.
 // The functions are for the crates above, which make instructions and interrupt entries of them.
 #![tactic(auto)]
+
 ghost use Rattle.std.specs.Prelude.{◌≡◌};
 ghost use Rattle.semantics.specs.Operands.{lowered, raised, store_top, push_of, push_address};
 ghost use Rattle.semantics.specs.Execute.{push_operand, pop_operand, call_of, call_pair_of, return_of, interrupt_return_of};
@@ -12,6 +13,7 @@ use isa::FlagSet;
 use semantics::Next;
 
 // SP is lowered by one.
+#[tactic(auto, unfolding(semantics::specs::Operands::lowered))]
 fn lower(regs: &mut Registers)
     ensures { regs.new ≡ lowered regs.old }
 {
@@ -20,6 +22,7 @@ fn lower(regs: &mut Registers)
 }
 
 // SP is raised by k.
+#[tactic(auto, unfolding(semantics::specs::Operands::raised))]
 fn raise(regs: &mut Registers, k: u8)
     ensures { regs.new ≡ raised regs.old k }
 {
@@ -28,6 +31,7 @@ fn raise(regs: &mut Registers, k: u8)
 }
 
 // A write where SP points; whether that is mapped.
+#[tactic(auto, unfolding(semantics::specs::Operands::store_top))]
 fn store_top(regs: &mut Registers, v: u8) -> bool
     ensures regs { regs.new ≡ (store_top regs.old v).regs }
     ensures ok { result ≡ (store_top regs.old v).ok }
@@ -38,6 +42,7 @@ fn store_top(regs: &mut Registers, v: u8) -> bool
 }
 
 // SP is lowered, then v is written where it points; whether that is mapped.
+#[tactic(auto, unfolding(semantics::specs::Operands::push_of))]
 pub fn push(regs: &mut Registers, v: u8) -> bool
     ensures regs { regs.new ≡ (push_of regs.old v).regs }
     ensures ok { result ≡ (push_of regs.old v).ok }
@@ -47,6 +52,7 @@ pub fn push(regs: &mut Registers, v: u8) -> bool
 }
 
 // The low half of an address is pushed, then the high half.
+#[tactic(auto, unfolding(semantics::specs::Operands::push_address))]
 pub fn push_address(regs: &mut Registers, a: RomAddr) -> bool
     ensures regs { regs.new ≡ (push_address regs.old a).regs }
     ensures ok { result ≡ (push_address regs.old a).ok }
@@ -57,6 +63,7 @@ pub fn push_address(regs: &mut Registers, a: RomAddr) -> bool
 }
 
 // PUSH: SP is lowered, then the operand is read.
+#[tactic(auto, unfolding(semantics::specs::Execute::push_operand))]
 pub fn push_operand(s: Operand, regs: &mut Registers, rec: &Inputs, pc: RomAddr) -> Next
     ensures regs { regs.new ≡ (push_operand s regs.old rec.now pc).regs }
     ensures next { result ≡ (push_operand s regs.old rec.now pc).next }
@@ -68,6 +75,7 @@ pub fn push_operand(s: Operand, regs: &mut Registers, rec: &Inputs, pc: RomAddr)
 }
 
 // POP: the byte where SP points is stored, then SP is raised.
+#[tactic(auto, unfolding(semantics::specs::Execute::pop_operand))]
 pub fn pop_operand(d: Operand, regs: &mut Registers, rec: &Inputs, pc: RomAddr) -> Next
     ensures regs { regs.new ≡ (pop_operand d regs.old rec.now pc).regs }
     ensures next { result ≡ (pop_operand d regs.old rec.now pc).next }
@@ -82,6 +90,7 @@ pub fn pop_operand(d: Operand, regs: &mut Registers, rec: &Inputs, pc: RomAddr) 
 }
 
 // CALL: the address behind it is pushed.
+#[tactic(auto, unfolding(semantics::specs::Execute::call_of))]
 pub fn call(to: RomAddr, regs: &mut Registers, pc: RomAddr) -> Next
     ensures regs { regs.new ≡ (call_of to regs.old pc).regs }
     ensures next { result ≡ (call_of to regs.old pc).next }
@@ -90,6 +99,7 @@ pub fn call(to: RomAddr, regs: &mut Registers, pc: RomAddr) -> Next
 }
 
 // CALL through a pair, which is read after the pushes.
+#[tactic(auto, unfolding(semantics::specs::Execute::call_pair_of))]
 pub fn call_pair(p: RegAddr, regs: &mut Registers, rec: &Inputs, pc: RomAddr) -> Next
     ensures regs { regs.new ≡ (call_pair_of p regs.old rec.now pc).regs }
     ensures next { result ≡ (call_pair_of p regs.old rec.now pc).next }
@@ -102,6 +112,7 @@ pub fn call_pair(p: RegAddr, regs: &mut Registers, rec: &Inputs, pc: RomAddr) ->
 }
 
 // RET.
+#[tactic(auto, unfolding(semantics::specs::Execute::return_of))]
 pub fn return_from_call(regs: &mut Registers, rec: &Inputs) -> Next
     ensures regs { regs.new ≡ (return_of regs.old rec.now).regs }
     ensures next { result ≡ (return_of regs.old rec.now).next }
@@ -113,6 +124,7 @@ pub fn return_from_call(regs: &mut Registers, rec: &Inputs) -> Next
 }
 
 // IRET: the flags that it names from the stack, then as RET; SYM.2 becomes 1.
+#[tactic(auto, unfolding(semantics::specs::Execute::interrupt_return_of))]
 pub fn interrupt_return(names: FlagSet, regs: &mut Registers, rec: &Inputs) -> Next
     ensures regs { regs.new ≡ (interrupt_return_of names regs.old rec.now).regs }
     ensures next { result ≡ (interrupt_return_of names regs.old rec.now).next }
