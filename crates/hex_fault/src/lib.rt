@@ -1,5 +1,6 @@
 // What was found in a refused line of Intel HEX, and what should stand there.
 #![tactic(auto)]
+
 ghost use Rattle.std.specs.Prelude.{◌≡◌, ◌+◌, ◌-◌, ◌<◌, ◌≤◌, length, drop};
 ghost use Rattle.hex_line.specs.Record.{body_of};
 ghost use Rattle.hex_fault.specs.Finding.{digits_from, called_for, wrong_count, malformed, last_pair, bad_sum, field_finding, line_finding, refusal_finding, finding_of};
@@ -8,7 +9,7 @@ use base::byte_at;
 use hex_line::{Fields, Line, Parsed, Reader};
 
 // Right: the line is read. Two numbers are what was found and what should stand there.
-#[derive(Drop)]
+#[derive(Clone, Copy)]
 pub enum Finding {
     Right,
     OtherBuffer,

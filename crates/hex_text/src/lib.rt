@@ -170,7 +170,8 @@ fn feed_open(
     while at < piece.len() {
         let c = piece[at];
         at += 1;
-        if LONGEST <= count {
+        let full = LONGEST <= count;
+        if full {
             let number = long_number(reader, buffer.len());
             return make_stream(reader, held, count, number);
         }

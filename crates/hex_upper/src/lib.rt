@@ -1,5 +1,6 @@
 // Converts an old line of Intel HEX, which may have small letters, into its upper-case line.
 #![tactic(auto)]
+
 ghost use Rattle.std.specs.Prelude.{◌≡◌, map, ◌≤◌, length};
 ghost use Rattle.hex_line.specs.Line.{checked_outcome};
 ghost use Rattle.hex_upper.specs.Former.{former_check};
@@ -11,7 +12,7 @@ use hex_line::{Checked, Fault};
 const LONGEST_BODY: usize = 521;
 
 // The line is upper-case now; or a refusal by 1, 2 or 3, and the line is as it was.
-#[derive(Drop)]
+#[derive(Clone, Copy)]
 pub enum Upper {
     Converted,
     Refused(Fault),
@@ -46,7 +47,8 @@ fn check_upper(body: &[u8], copy: &mut [u8]) -> Checked
     requires { length body.now ≤ length copy.old }
     ensures { checked_outcome result ≡ former_check body.now }
 {
-    let n = bytes::copy(body, copy);
+    let n = body.len();
+    copy[..n].copy_from_slice(body);
     make_upper(&mut copy[..n]);
     hex_line::check_body(&copy[..n])
 }

@@ -1,5 +1,6 @@
 // Writes an image as Intel HEX.
 #![tactic(auto)]
+
 ghost use Rattle.std.specs.Prelude.{◌≡◌, ◌+◌, ◌*◌, ◌%◌, ◌<◌, ◌≤◌, ◌++◌, length, drop};
 ghost use Rattle.base.specs.Parts.{part_of};
 ghost use Rattle.hex_write.specs.ImageText.{hex_digit, head_byte, head_sum, record_byte, record_line, end_line, addressable, HasRecord, image_text, text_length, written_outcome, write_answer, write_buffer};
@@ -22,7 +23,7 @@ pub fn text_length(profile: Profile) -> usize
 }
 
 // How many bytes were written; or refusal 7.
-#[derive(Drop)]
+#[derive(Clone, Copy)]
 pub enum Written {
     Bytes(usize),
     WrongLength,

@@ -9,23 +9,23 @@ use Rattle.hex_text.specs.StreamLaws.{fed_one, fed_all, fed_refused}
 use Rattle.hex_text.specs.Refusals.{long_number_lem}
 use Rattle.hex_text.proofs.feed_open.Goals as goal
 
-pub returns-then-count-ge-LONGEST-clause-value : goal.returns-then-count-ge-LONGEST-clause-value
+pub returns-then-full-clause-value : goal.returns-then-full-clause-value
 unfolding push_stream push_buffer
-returns-then-count-ge-LONGEST-clause-value c =
+returns-then-full-clause-value c =
     let l = c.loop-at in
     let size = length c.args.buffer.now in
-    let long = le-leb _ _ c.if-count-ge-LONGEST.true in
+    let long = le-leb _ _ c.if-full.true in
     let f =
     fed_refused (fed_one l.invariant.1.0 c.loop-at-test.true l.invariant.1.1.0 refl refl)
     (rw long (long_number_lem l.reader size).0) in
     c.make_stream.ensures ∙ rw (c.long_number-number.ensures, l.invariant.1.1.0) (rw long at f.0)
 
-pub returns-then-count-ge-LONGEST-clause-buffer_after : goal.returns-then-count-ge-LONGEST-clause-buffer_after
+pub returns-then-full-clause-buffer_after : goal.returns-then-full-clause-buffer_after
 unfolding push_stream push_buffer
-returns-then-count-ge-LONGEST-clause-buffer_after c =
+returns-then-full-clause-buffer_after c =
     let l = c.loop-at in
     let size = length c.args.buffer.now in
-    let long = le-leb _ _ c.if-count-ge-LONGEST.true in
+    let long = le-leb _ _ c.if-full.true in
     let f =
     fed_refused (fed_one l.invariant.1.0 c.loop-at-test.true l.invariant.1.1.0 refl refl)
     (rw long (long_number_lem l.reader size).0) in
@@ -36,7 +36,7 @@ unfolding push_stream push_buffer
 loop-at-preserved-in-Read c =
     let l = c.loop-at in
     let g = rw l.invariant.1.1.0 at (sym c.in-Read.ensures.result_value) in
-    let room = lt-leb _ _ c.if-count-ge-LONGEST.false in
+    let room = lt-leb _ _ c.if-full.false in
     let end = eq-eqb _ _ c.if-c-eq10.true in (
       search rules,
       (
@@ -51,7 +51,7 @@ unfolding push_stream push_buffer
 returns-in-Refused-clause-value c =
     let l = c.loop-at in
     let g = rw l.invariant.1.1.0 at (sym c.in-Refused.ensures.result_value) in
-    let room = lt-leb _ _ c.if-count-ge-LONGEST.false in
+    let room = lt-leb _ _ c.if-full.false in
     let end = eq-eqb _ _ c.if-c-eq10.true in
     let f =
     fed_refused (fed_one l.invariant.1.0 c.loop-at-test.true l.invariant.1.1.0 refl refl)
@@ -63,7 +63,7 @@ unfolding push_stream push_buffer
 returns-in-Refused-clause-buffer_after c =
     let l = c.loop-at in
     let g = rw l.invariant.1.1.0 at (sym c.in-Refused.ensures.result_value) in
-    let room = lt-leb _ _ c.if-count-ge-LONGEST.false in
+    let room = lt-leb _ _ c.if-full.false in
     let end = eq-eqb _ _ c.if-c-eq10.true in
     let f =
     fed_refused (fed_one l.invariant.1.0 c.loop-at-test.true l.invariant.1.1.0 refl refl)
@@ -74,7 +74,7 @@ pub loop-at-preserved : goal.loop-at-preserved
 unfolding push_stream push_buffer
 loop-at-preserved c =
     let l = c.loop-at in
-    let room = lt-leb _ _ c.if-count-ge-LONGEST.false in
+    let room = lt-leb _ _ c.if-full.false in
     let other = ne_eqb _ _ c.if-c-eq10.false in (
       search rules,
       (

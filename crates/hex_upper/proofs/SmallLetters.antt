@@ -16,7 +16,7 @@ use Rattle.hex_line.proofs.LineLaws.{read_parsed}
 use Rattle.hex_line.proofs.ParseLaws.{refused_colon, refused_character}
 use Rattle.hex_text.specs.Text.{onto, lines, lines_answer, text_answer}
 use Rattle.hex_upper.specs.Former.{small_letter, NoSmall}
-use Rattle.hex_upper.specs.UpperLaws.{digit_none}
+use Rattle.hex_upper.proofs.UpperLaws.{digit_none}
 
 -- a small letter stands in a line, and not in its end
 inside : (l : List ℕ) (i : ℕ) → small_letter (get_or l i 0) ≡ true → i < length l

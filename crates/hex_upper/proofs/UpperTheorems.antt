@@ -15,7 +15,7 @@ use Rattle.hex_line.proofs.Cases.{placed_has}
 use Rattle.hex_line.proofs.Refusals.{check_number}
 use Rattle.hex_upper.specs.Former.{small_letter, NoSmall, former_digit, former_line, former_buffer}
 use Rattle.hex_upper.specs.Upper.{upper_of, upper_answer, upper_line}
-use Rattle.hex_upper.specs.UpperLaws.{get_d_upper, body_length_upper, check_upper, read_upper, buffer_upper}
+use Rattle.hex_upper.proofs.UpperLaws.{get_d_upper, body_length_upper, check_upper, read_upper, buffer_upper}
 
 -- the line behind the call
 pub converted : (l : List ℕ) → upper_answer l ≡ value tt → upper_line l ≡ map upper_of l

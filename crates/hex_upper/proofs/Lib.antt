@@ -1,0 +1,3 @@
+pub mod UpperLaws
+pub mod UpperTheorems
+pub mod SmallLetters
