@@ -1,5 +1,6 @@
 // Makes schedules by Marsaglia's 32-bit xorshift, so that a seed and a number of records stand for a whole schedule.
 #![tactic(auto)]
+
 ghost use Rattle.std.specs.Prelude.{◌≡◌, ◌++◌, ◌/◌, ◌%◌, ◌≤◌, length, drop};
 ghost use Rattle.base.specs.Lengths.{record_length};
 ghost use Rattle.xorshift.specs.Xorshift.{round, four_bytes, next_state, record_from, state_after, records_from, filled_outcome, taken, fill_answer, fill_buffer};
@@ -14,6 +15,7 @@ pub enum Filled {
 }
 
 // The next state: shifts 13 left, 17 right, 5 left.
+#[tactic(auto, unfolding(crate::specs::Xorshift::round))]
 fn round(y: u32) -> u32
     ensures { result ≡ round y }
 {
