@@ -138,7 +138,7 @@ fn argument(rt: &impl Env, i: usize) -> u64 {
 }
 
 // The arguments of a benchmark: the row, how much work, and the seed, 0 where none is given.
-#[derive(Drop)]
+#[derive(Clone, Copy)]
 pub struct Arguments {
     pub what: u64,
     pub count: u64,

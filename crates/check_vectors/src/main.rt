@@ -12,14 +12,14 @@ use std::io::Read;
 use test_support::{Case, Counts, print, print_number, read_edits};
 
 // The numbers of a case's profile and of its certificate's length.
-#[derive(Drop)]
+#[derive(Clone, Copy)]
 struct Kind {
     profile: u8,
     length: u8,
 }
 
 // A number, 0 for accepted, and an address.
-#[derive(Drop)]
+#[derive(Clone, Copy)]
 struct Answer {
     number: u8,
     address: u16,

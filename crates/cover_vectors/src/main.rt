@@ -11,7 +11,7 @@ use test_support::{Case, Counts, print, print_number, word};
 use uncovered::Lowest;
 
 // How many addresses are marked; 0 for no unmarked start, 1 for one, 2 for a refusal; its address, or the refusal's number.
-#[derive(Drop)]
+#[derive(Clone, Copy)]
 struct Answer {
     marked: u32,
     kind: u8,

@@ -72,7 +72,7 @@ fn rows(rt: &impl Print, seen: &mut [u8; 256], text: &[u8]) -> io::Result<()> {
 }
 
 // How many first bytes start an instruction, how many start none, and how many are not where they belong.
-#[derive(Drop)]
+#[derive(Clone, Copy)]
 struct Totals {
     codes: u64,
     undefined: u64,

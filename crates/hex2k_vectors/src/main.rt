@@ -59,7 +59,7 @@ fn write_example(
         rt,
         hex_cases::written_number(hex_write::write_image(profile, image, out)),
     )?;
-    if out == kept {
+    if &*out == kept {
         print(rt, b" unchanged, image of ")?;
     } else {
         print(rt, b" written, image of ")?;

@@ -173,7 +173,7 @@ pub fn write_and_read(
     print_part(rt, out, at, 44)?;
     print_part(rt, out, hex_write::text_length(profile) - 12, 12)?;
     print_number(rt, wide(text_number(hex_text::read_text(out, back))))?;
-    if image == back {
+    if &*image == &*back {
         print(rt, b" read back\n")?;
     } else {
         print(rt, b" not read back\n")?;

@@ -23,7 +23,7 @@ fn word(rt: &impl Print, w: u16) -> io::Result<()> {
 }
 
 // A form by its number in the order of `Instruction`, and its operands in the form's order, 0 where it has none.
-#[derive(Drop)]
+#[derive(Clone, Copy)]
 struct Fields {
     form: u8,
     x: u8,

@@ -5,7 +5,7 @@ use coverage::Map;
 use std::io::Read;
 
 // How a list of addresses was read: whether the file has them all and they are of ROM, and whether each is another.
-#[derive(Drop)]
+#[derive(Clone, Copy)]
 pub struct Marks {
     pub whole: bool,
     pub distinct: bool,

@@ -12,7 +12,7 @@ use std::io;
 use test_support::{hex_byte, hex_value, print, print_hex, store};
 
 // What the left side of a `=` names.
-#[derive(Drop)]
+#[derive(Clone, Copy)]
 enum Key {
     Register(u8),
     Rom(u16),
@@ -26,7 +26,7 @@ enum Key {
 }
 
 // The machine beside its registers and ROM; the number of steps; the address behind the code; whether the text could be read.
-#[derive(Drop)]
+#[derive(Clone, Copy)]
 struct Rest {
     pc: u16,
     mode: u8,
@@ -38,7 +38,7 @@ struct Rest {
 }
 
 // The first difference: a register's address, or one of the numbers below.
-#[derive(Drop)]
+#[derive(Clone, Copy)]
 struct Difference {
     place: usize,
     found: u64,
@@ -61,7 +61,7 @@ const NONE: usize = 261;
 const MOST_STEPS: usize = 8;
 
 // The position in the text, the line of the last `given`, and the numbers of examples that were compared, and that differ.
-#[derive(Drop)]
+#[derive(Clone, Copy)]
 struct Walk {
     at: usize,
     given: usize,

@@ -48,7 +48,7 @@ type Schedule = [u8; SCHEDULE_LENGTH];
 type Expected = [u8; EXPECTED_LENGTH];
 
 // What of a run agrees with what is expected.
-#[derive(Drop)]
+#[derive(Clone, Copy)]
 struct Agreement {
     number: bool,
     steps: bool,
@@ -87,7 +87,7 @@ fn covered(
 }
 
 // The runs of a case: with no map; and from no marks, from those of the case, and from all.
-#[derive(Drop)]
+#[derive(Clone, Copy)]
 struct Runs {
     plain: Agreement,
     empty: Agreement,
