@@ -1,7 +1,10 @@
 // What the benchmarks of the machine share: the programs that they run, the schedule, what a run leaves, and the arguments.
 #![tactic(auto)]
+
 use base::{IMAGE_4K, RECORD_LENGTH};
 use semantics::State;
+use std::io;
+use std::rt::Env;
 use test_support::{print, print_hex, print_number, put};
 use xorshift::Filled;
 
@@ -98,19 +101,16 @@ fn wide(x: u8) -> u64 {
 }
 
 // The program, the cycle total, the program counter, R4 and R6.
-pub fn tell(what: u64, s: State) {
+pub fn tell(rt: &impl Print, what: u64, s: State) -> io::Result<()> {
     let pc = s.pc;
     let regs = s.regs;
-    print_number(what);
-    print(b" ");
-    print_number(s.cycles as u64);
-    print(b" ");
-    print_hex(pc.0 as u64, 4);
-    print(b" ");
-    print_hex(wide(regs[0xC4]), 2);
-    print(b" ");
-    print_hex(wide(regs[0xC6]), 2);
-    print(b"\n");
+    println!(rt;
+        "{what} {} {:04x} {:02x} {:02x}",
+        s.cycles,
+        pc.0,
+        wide(regs[0xC4]),
+        wide(regs[0xC6])
+    )
 }
 
 // Makes one part, and answers the state behind it, 0 where it is refused.
@@ -129,14 +129,16 @@ pub fn schedule(seed: u32) -> [u8; SCHEDULE] {
 }
 
 // An argument, as a number.
-fn argument(i: usize) -> u64 {
+fn argument(rt: &impl Env, i: usize) -> u64 {
     let mut text = [0u8; 16];
-    let n = os::arg(i, &mut text);
-    test_support::number(&text[..n])
+    match rt.arg(i, &mut text) {
+        Ok(n) => test_support::number(&text[..n]),
+        Err(_) => 0,
+    }
 }
 
 // The arguments of a benchmark: the row, how much work, and the seed, 0 where none is given.
-#[derive(Drop)]
+#[derive(Clone, Copy)]
 pub struct Arguments {
     pub what: u64,
     pub count: u64,
@@ -144,19 +146,19 @@ pub struct Arguments {
 }
 
 // The seed of a number, 1 to 4294967295. Another number is told of, and 0.
-fn seed_of(given: u64) -> u32 {
+fn seed_of(rt: &impl Print, given: u64) -> io::Result<u32> {
     let seed = (given % 4294967296) as u32;
     if (seed == 0) | (seed as u64 != given) {
-        print(b"a seed is 1 to 4294967295\n");
-        return 0;
+        print(rt, b"a seed is 1 to 4294967295\n")?;
+        return Ok(0);
     }
-    seed
+    Ok(seed)
 }
 
-pub fn read_arguments() -> Arguments {
-    Arguments {
-        what: argument(1),
-        count: argument(2),
-        seed: seed_of(argument(3)),
-    }
+pub fn read_arguments(rt: &(impl Print + Env)) -> io::Result<Arguments> {
+    Ok(Arguments {
+        what: argument(rt, 1),
+        count: argument(rt, 2),
+        seed: seed_of(rt, argument(rt, 3))?,
+    })
 }

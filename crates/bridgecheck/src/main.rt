@@ -1,7 +1,7 @@
 // Reads image.hex and cert.hex in the folder that it runs in, and prints whether the image is accepted.
 #![tactic(auto)]
-use libc::{STDERR_FILENO, STDOUT_FILENO};
 
-fn main() {
-    command::bridgecheck(STDOUT_FILENO, STDERR_FILENO);
+// The program has no status: `bin/bridgecheck` goes by what was written.
+fn main(rt: HostRuntime) {
+    let _ = command::bridgecheck(&rt, &mut rt.stdout(), &mut rt.stderr());
 }

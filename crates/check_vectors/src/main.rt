@@ -1,22 +1,25 @@
 // Runs the checker on the cases of the file checks.bin, and prints what differs. A case is a byte for the profile and one for the
 // certificate's length; edits of an image of FFH, and of a certificate of 00H; and the answer that it expects.
 #![tactic(auto)]
+
 ghost use Rattle.std.specs.Prelude.{◌≤◌};
 ghost use Rattle.base.specs.Lengths.{long_certificate_length};
 
 use base::{IMAGE_2K, IMAGE_4K, LONG_CERTIFICATE_LENGTH, Profile, SHORT_CERTIFICATE_LENGTH};
 use certificate::Verdict;
+use std::io;
+use std::io::Read;
 use test_support::{Case, Counts, print, print_number, read_edits};
 
 // The numbers of a case's profile and of its certificate's length.
-#[derive(Drop)]
+#[derive(Clone, Copy)]
 struct Kind {
     profile: u8,
     length: u8,
 }
 
 // A number, 0 for accepted, and an address.
-#[derive(Drop)]
+#[derive(Clone, Copy)]
 struct Answer {
     number: u8,
     address: u16,
@@ -43,22 +46,19 @@ fn expected_of(three: &[u8; 3]) -> Answer {
     }
 }
 
-fn print_answer(a: Answer) {
-    print_number(a.number as u64);
-    print(b" at ");
-    print_number(a.address as u64);
+fn print_answer(rt: &impl Print, a: Answer) -> io::Result<()> {
+    print!(rt; "{} at {}", a.number, a.address)
 }
 
-fn tell(kind: Kind, expected: Answer, given: Answer) {
-    print(b" of profile ");
-    print_number(kind.profile as u64);
-    print(b", certificate length ");
-    print_number(kind.length as u64);
-    print(b": expected ");
-    print_answer(expected);
-    print(b", given ");
-    print_answer(given);
-    print(b"\n");
+fn tell(rt: &impl Print, kind: Kind, expected: Answer, given: Answer) -> io::Result<()> {
+    print!(rt;
+        " of profile {}, certificate length {}: expected ",
+        kind.profile, kind.length
+    )?;
+    print_answer(rt, expected)?;
+    print(rt, b", given ")?;
+    print_answer(rt, given)?;
+    print(rt, b"\n")
 }
 
 // Whether the checker has the profile of a case, and its certificate length.
@@ -91,40 +91,40 @@ fn same_answer(a: Answer, b: Answer) -> bool {
 }
 
 // Reads the rest of a case, and compares; one that is cut off differs.
-fn compare(fd: i32, kind: Kind, counts: Counts) -> Case {
+fn compare(rt: &impl Print, file: &mut impl Read, kind: Kind, counts: Counts) -> io::Result<Case> {
     let mut image = [255u8; IMAGE_4K];
     let mut cert = [0u8; LONG_CERTIFICATE_LENGTH];
     let mut three = [0u8; 3];
-    let edited = read_edits(fd, &mut image) & read_edits(fd, &mut cert);
-    let whole = (io::read_full(fd, &mut three) == 3) & edited;
+    let edited = read_edits(file, &mut image) & read_edits(file, &mut cert);
+    let whole = (test_support::read_full(file, &mut three) == 3) & edited;
     let expected = expected_of(&three);
     let given = answer_of(verdict_of(kind, &image, &cert[0..length_of(kind)]));
     if whole & is_supported(kind) & same_answer(expected, given) {
-        return Case::Same;
+        return Ok(Case::Same);
     }
-    if test_support::tells(counts) {
-        tell(kind, expected, given);
+    if test_support::tells(rt, counts)? {
+        tell(rt, kind, expected, given)?;
     }
-    Case::Differs
+    Ok(Case::Differs)
 }
 
-fn run_case(fd: i32, counts: Counts) -> Case {
+fn run_case(rt: &impl Print, file: &mut impl Read, counts: Counts) -> io::Result<Case> {
     let mut two = [0u8; 2];
-    if io::read_full(fd, &mut two) == 0 {
-        return Case::End;
+    if test_support::read_full(file, &mut two) == 0 {
+        return Ok(Case::End);
     }
     let kind = Kind {
         profile: two[0],
         length: two[1],
     };
-    compare(fd, kind, counts)
+    compare(rt, file, kind, counts)
 }
 
-fn main() {
-    let fd = test_support::open(b"checks.bin");
+fn main(rt: HostRuntime) -> io::Result<()> {
+    let mut file = test_support::open(&rt, b"checks.bin")?;
     let mut counts = test_support::start();
     while counts.left > 0 {
-        counts = test_support::counted(counts, run_case(fd, counts));
+        counts = test_support::counted(counts, run_case(&rt, &mut file, counts)?);
     }
-    test_support::finish(fd, counts);
+    test_support::finish(&rt, file, counts)
 }

@@ -1,10 +1,12 @@
 // Runs with a coverage map, and summaries, to be timed: `cover_bench WHAT COUNT SEED`. Rows 1 to 3 are those of `machine_bench` with a map, COUNT thousands of
 // records; row 4 is COUNT summaries. A program of its own, since `run` takes other instructions in a program that also has `run_covered`.
 #![tactic(auto)]
+
 use base::{IMAGE_4K, LONG_CERTIFICATE_LENGTH, Profile};
 use bench_programs::{SCHEDULE, program, schedule, tell};
 use coverage::{Map, WORDS};
 use semantics::{Configuration, State};
+use std::io;
 use test_support::{print, print_number};
 use uncovered::Lowest;
 
@@ -20,24 +22,22 @@ fn cover_parts(
         entry_cost: 0,
     };
     let mut state = machine::reset();
-    let mut left = parts;
-    while left > 0 {
+    for _ in 0..parts {
         let r = machine::run_covered(configuration, image, state, records, map);
         state = r.state;
-        left -= 1;
     }
     state
 }
 
 // The program of a row, and how many addresses it has marked.
-fn cover(what: u64, count: u64, seed: u32) {
+fn cover(rt: &impl Print, what: u64, count: u64, seed: u32) -> io::Result<()> {
     let mut map: Map = [0; WORDS];
     tell(
+        rt,
         what,
         cover_parts(&program(what), &schedule(seed), &mut map, count),
-    );
-    print_number(coverage::count(&map) as u64);
-    print(b" marked\n");
+    )?;
+    println!(rt; "{} marked", coverage::count(&map))
 }
 
 // The address of an answer, 0 where it has none.
@@ -58,42 +58,40 @@ fn summaries(count: u64) -> u64 {
     let cert = [1u8; LONG_CERTIFICATE_LENGTH];
     let mut map: Map = [u64::MAX; WORDS];
     let mut sum = 0;
-    let mut left = count;
-    while left > 0 {
-        map[WORDS - 1] = left;
+    for done in 0..count {
+        map[WORDS - 1] = count - done;
         sum = std::num::wrapping_add_u64(sum, summary(&cert, &map));
-        left -= 1;
     }
     sum
 }
 
-fn cover_rows(count: u64, seed: u32) {
-    let mut what = 1;
-    while what < 4 {
-        cover(what, count, seed);
-        what += 1;
+fn cover_rows(rt: &impl Print, count: u64, seed: u32) -> io::Result<()> {
+    for what in 1..4 {
+        cover(rt, what, count, seed)?;
     }
+    Ok(())
 }
 
-fn tell_summaries(count: u64) {
-    print_number(summaries(count));
-    print(b"\n");
+fn tell_summaries(rt: &impl Print, count: u64) -> io::Result<()> {
+    println!(rt; "{}", summaries(count))
 }
 
-fn bench(what: u64, count: u64, seed: u32) {
+fn bench(rt: &impl Print, what: u64, count: u64, seed: u32) -> io::Result<()> {
     match what {
-        0 => cover_rows(count, seed),
+        0 => cover_rows(rt, count, seed)?,
         4 => {}
-        _ => cover(what, count, seed),
+        _ => cover(rt, what, count, seed)?,
     }
     if (what == 0) | (what == 4) {
-        tell_summaries(count);
+        tell_summaries(rt, count)?;
     }
+    Ok(())
 }
 
-fn main() {
-    let a = bench_programs::read_arguments();
+fn main(rt: HostRuntime) -> io::Result<()> {
+    let a = bench_programs::read_arguments(&rt)?;
     if a.seed != 0 {
-        bench(a.what, a.count, a.seed);
+        bench(&rt, a.what, a.count, a.seed)?;
     }
+    Ok(())
 }

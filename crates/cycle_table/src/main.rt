@@ -1,7 +1,9 @@
 // Prints the table of cycles in docs/CERTIFICATE.md, a row for each instruction with its operands. The names are typed here; bytes and cycles
 // are those of `isa`. The last line tells whether each first byte is in the one row that it belongs to.
 #![tactic(auto)]
+
 use base::byte_at;
+use std::io;
 use test_support::{hex_byte, print, print_field, print_number};
 
 const ROWS: u8 = 108;
@@ -33,47 +35,44 @@ fn placed(old: u8, code: u8, first: u8) -> u8 {
 // Places the first bytes of a row: `count` of them, 10H apart.
 fn place(seen: &mut [u8; 256], first: u8, count: u8) {
     let mut code = first;
-    let mut left = count;
-    while left > 0 {
+    for _ in 0..count {
         let old = seen[code as usize];
         seen[code as usize] = placed(old, code, first);
         code = std::num::wrapping_add_u8(code, 16);
-        left -= 1;
     }
 }
 
-fn print_row(text: &[u8], n: u8, first: u8) {
+fn print_row(rt: &impl Print, text: &[u8], n: u8, first: u8) -> io::Result<()> {
     let at = WIDTH * (n as usize);
-    print(b"| ");
-    print_field(text, at + 3);
-    print(b" | ");
-    print_field(text, at);
-    print(b"H | ");
-    print_number(isa::length_of(first) as u64);
-    print(b" | ");
-    print_number(isa::cycles_of(first) as u64);
-    print(b" |\n");
+    print(rt, b"| ")?;
+    print_field(rt, text, at + 3)?;
+    print(rt, b" | ")?;
+    print_field(rt, text, at)?;
+    println!(rt;
+        "H | {} | {} |",
+        isa::length_of(first),
+        isa::cycles_of(first)
+    )
 }
 
 // A row of the text: two digits of the first byte, or `x` for any and one digit; and the name.
-fn row(seen: &mut [u8; 256], text: &[u8], n: u8) {
+fn row(rt: &impl Print, seen: &mut [u8; 256], text: &[u8], n: u8) -> io::Result<()> {
     let at = WIDTH * (n as usize);
     let high = byte_at(text, at);
     let first = hex_byte(high, byte_at(text, at + 1));
     place(seen, first, if high == b'x' { 16 } else { 1 });
-    print_row(text, n, first);
+    print_row(rt, text, n, first)
 }
 
-fn rows(seen: &mut [u8; 256], text: &[u8]) {
-    let mut n: u8 = 0;
-    while n < ROWS {
-        row(seen, text, n);
-        n += 1;
+fn rows(rt: &impl Print, seen: &mut [u8; 256], text: &[u8]) -> io::Result<()> {
+    for n in 0..ROWS {
+        row(rt, seen, text, n)?;
     }
+    Ok(())
 }
 
 // How many first bytes start an instruction, how many start none, and how many are not where they belong.
-#[derive(Drop)]
+#[derive(Clone, Copy)]
 struct Totals {
     codes: u64,
     undefined: u64,
@@ -108,31 +107,28 @@ fn total(seen: &[u8; 256]) -> Totals {
         undefined: 0,
         differ: 0,
     };
-    let mut code: u16 = 0;
-    while code < 256 {
-        t = counted(t, code as u8, seen[code as usize]);
-        code += 1;
+    for code in 0..=255u8 {
+        t = counted(t, code, seen[code as usize]);
     }
     t
 }
 
-fn print_totals(t: Totals) {
-    print(b"\n");
-    print_number(t.codes);
-    print(b" codes in ");
-    print_number(ROWS as u64);
-    print(b" rows, ");
-    print_number(t.undefined);
-    print(b" undefined, ");
-    print_number(t.differ);
-    print(b" differ.\n");
+fn print_totals(rt: &impl Print, t: Totals) -> io::Result<()> {
+    println!(rt;
+        "\n{} codes in {ROWS} rows, {} undefined, {} differ.",
+        t.codes, t.undefined, t.differ
+    )
 }
 
 // LDE, LDED and LDEI have the first bytes of LDC, LDCD and LDCI, and DA has those of XL[rr]: the second byte tells them apart.
-fn main() {
+fn main(rt: HostRuntime) -> io::Result<()> {
     let mut seen = [FREE; 256];
-    print(b"| Instruction | First byte | Bytes | Cycles |\n|---|---|---|---|\n");
+    print(
+        &rt,
+        b"| Instruction | First byte | Bytes | Cycles |\n|---|---|---|---|\n",
+    )?;
     rows(
+        &rt,
         &mut seen,
         b"12.ADC r,r..................13.ADC r,Ir.................14.ADC R,R..................15.ADC R,IR.................\
           16.ADC R,IM.................02.ADD r,r..................03.ADD r,Ir.................04.ADD R,R..................\
@@ -161,6 +157,6 @@ fn main() {
           65.TCM R,IR.................66.TCM R,IM.................72.TM r,r...................73.TM r,Ir..................\
           74.TM R,R...................75.TM R,IR..................76.TM R,IM..................B2.XOR r,r..................\
           B3.XOR r,Ir.................B4.XOR R,R..................B5.XOR R,IR.................B6.XOR R,IM.................",
-    );
-    print_totals(total(&seen));
+    )?;
+    print_totals(&rt, total(&seen))
 }

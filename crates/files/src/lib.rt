@@ -1,5 +1,6 @@
-// Reads an image file and a certificate file, and writes the text of their judgement. What is wrong in a file is told on a descriptor.
+// Reads an image file and a certificate file, and writes the text of their judgement. What is wrong in a file is told on a writer.
 #![tactic(auto)]
+
 mod tell;
 
 ghost use Rattle.std.specs.Prelude.{◌≡◌, ◌<◌};
@@ -11,9 +12,11 @@ ghost use Rattle.files.specs.Reading.{counted, line_end, Turned, turns_left, ans
 use base::Profile;
 use hex_text::{Stream, Text};
 use hex_write::Written;
+use std::io::{Read, Write};
+use std::rt::Files;
 
 // What was read of a file: the stream, how many lines ended before a refused one, and how the reading stands.
-#[derive(Drop)]
+#[derive(Clone, Copy)]
 pub struct Turn {
     pub stream: Stream,
     pub lines: u32,
@@ -73,20 +76,16 @@ fn feed_lines(s: Stream, lines: u32, piece: &[u8], buffer: &mut [u8]) -> Turn
 }
 
 // Reads once, and feeds what came.
-fn read_piece(fd: i32, s: Stream, lines: u32, buffer: &mut [u8]) -> Turn
+fn read_piece(file: &mut impl Read, s: Stream, lines: u32, buffer: &mut [u8]) -> Turn
     requires { s.number ≡ 0 }
     ensures { Turned s result.stream lines result.lines result.state buffer.old buffer.new }
 {
-    let mut piece = io::buffer();
-    let got = libc::read(fd, &mut piece);
-    if got < 0 {
-        return make_turn(s, lines, FAILED);
+    let mut piece = [0u8; 4096];
+    match file.read(&mut piece) {
+        Ok(0) => make_turn(s, lines, ENDED),
+        Ok(n) => feed_lines(s, lines, &piece[..n], buffer),
+        Err(_) => make_turn(s, lines, FAILED),
     }
-    if got == 0 {
-        return make_turn(s, lines, ENDED);
-    }
-    let n = io::count(got, &piece);
-    feed_lines(s, lines, &piece[..n], buffer)
 }
 
 // How many turns are left behind one: none once the file ended, failed or is refused.
@@ -101,7 +100,7 @@ fn turns_left(turns: u64, state: u8) -> u64
 }
 
 // Reads an open file to its end or to its first refused line. The turns are more than any file has pieces.
-fn read_open(fd: i32, buffer: &mut [u8]) -> Turn
+fn read_open(file: &mut impl Read, buffer: &mut [u8]) -> Turn
     ensures { Turned started result.stream 0 result.lines result.state buffer.old buffer.new }
 {
     let mut s = hex_text::start();
@@ -109,7 +108,7 @@ fn read_open(fd: i32, buffer: &mut [u8]) -> Turn
     let mut state = GOES_ON;
     let mut turns = u64::MAX;
     while turns > 0 {
-        let turn = read_piece(fd, s, lines, buffer);
+        let turn = read_piece(file, s, lines, buffer);
         let next = turn.stream;
         s = next;
         lines = turn.lines;
@@ -131,35 +130,38 @@ fn answer_of(turn: Turn, length: usize) -> Text
 }
 
 // Reads a file by its name into a buffer, as the HEX readers go by its length. A missing file counts as empty. When a line is refused, the lines before it
-// are in the buffer. What is wrong in the file is told in one line on the descriptor `errors`.
-pub fn read_file(name: &[u8], buffer: &mut [u8], errors: i32) -> Text
+// are in the buffer. What is wrong in the file is told in one line on the writer `errors`; what that cannot take changes no answer.
+pub fn read_file(rt: &impl Files, name: &[u8], buffer: &mut [u8], errors: &mut impl Write) -> Text
     ensures { Reads (text_outcome result) buffer.old buffer.new }
 {
-    let fd = os::open_read(name);
-    if fd < 0 {
-        tell::unopened(name, errors);
-        return hex_text::finish(hex_text::start(), buffer.len());
+    match reading::open(rt, name) {
+        Ok(mut file) => {
+            let turn = read_open(&mut file, buffer);
+            let _ = tell::refusal(errors, name, turn, buffer.len());
+            answer_of(turn, buffer.len())
+        }
+        Err(error) => {
+            let _ = tell::unopened(errors, name, error);
+            hex_text::finish(hex_text::start(), buffer.len())
+        }
     }
-    let turn = read_open(fd, buffer);
-    libc::close(fd);
-    tell::refusal(name, turn, buffer.len(), errors);
-    answer_of(turn, buffer.len())
 }
 
 // Reads an image file and a certificate file by their names, and writes the text of their judgement at the front of a buffer. What is wrong in
-// a file is told in one line on the descriptor `errors`.
+// a file is told in one line on the writer `errors`.
 pub fn judge_files(
+    rt: &impl Files,
     image_name: &[u8],
     certificate_name: &[u8],
     out: &mut [u8],
-    errors: i32,
+    errors: &mut impl Write,
 ) -> Written
     ensures { Judges (written_outcome result) out.old out.new }
 {
     let mut image = judge::blank_image();
     let mut cert = judge::blank_certificate();
-    let image_read = read_file(image_name, &mut image, errors);
-    let certificate_read = read_file(certificate_name, &mut cert, errors);
+    let image_read = read_file(rt, image_name, &mut image, errors);
+    let certificate_read = read_file(rt, certificate_name, &mut cert, errors);
     let verdict = checker::check(Profile::Rom4K, &image, &cert);
     judge::write_judgement(image_read, certificate_read, verdict, &cert, out)
 }

@@ -1,7 +1,11 @@
 // Compares the flags that the decoder names with those of the file flags.txt, a line for each first byte, and prints what differs.
 #![tactic(auto)]
+
 use decode::decode;
 use isa::{Decoded, Flag, FlagSet};
+use std::io;
+use std::io::Read;
+use std::rt::Files;
 use test_support::{Case, Counts, hex_byte, print, put, read_line, store};
 
 // A line without its end, zeros behind it; `undefined` makes the longest.
@@ -42,38 +46,38 @@ fn line_of(high: u8, low: u8) -> Line {
     line
 }
 
-fn compare(line: &Line, named: &Line, counts: Counts) -> Case {
-    if check::same(line, named) {
-        return Case::Same;
+fn compare(rt: &impl Print, line: &Line, named: &Line, counts: Counts) -> io::Result<Case> {
+    if line == named {
+        return Ok(Case::Same);
     }
-    if test_support::tells(counts) {
-        print(b" ");
-        print(line);
-        print(b": ");
-        print(named);
-        print(b"\n");
+    if test_support::tells(rt, counts)? {
+        print(rt, b" ")?;
+        print(rt, line)?;
+        print(rt, b": ")?;
+        print(rt, named)?;
+        print(rt, b"\n")?;
     }
-    Case::Differs
+    Ok(Case::Differs)
 }
 
-fn run_case(fd: i32, counts: Counts) -> Case {
+fn run_case(rt: &impl Print, file: &mut impl Read, counts: Counts) -> io::Result<Case> {
     let mut line = [0u8; 16];
-    if read_line(fd, &mut line) == 0 {
-        return Case::End;
+    if read_line(file, &mut line) == 0 {
+        return Ok(Case::End);
     }
     let named = line_of(line[0], line[1]);
-    compare(&line, &named, counts)
+    compare(rt, &line, &named, counts)
 }
 
-fn run_cases() {
-    let fd = test_support::open(b"flags.txt");
+fn run_cases(rt: &(impl Files + Print + Eprint)) -> io::Result<()> {
+    let mut file = test_support::open(rt, b"flags.txt")?;
     let mut counts = test_support::start();
     while counts.left > 0 {
-        counts = test_support::counted(counts, run_case(fd, counts));
+        counts = test_support::counted(counts, run_case(rt, &mut file, counts)?);
     }
-    test_support::finish(fd, counts);
+    test_support::finish(rt, file, counts)
 }
 
-fn main() {
-    run_cases();
+fn main(rt: HostRuntime) -> io::Result<()> {
+    run_cases(&rt)
 }

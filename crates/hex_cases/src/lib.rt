@@ -1,15 +1,19 @@
 // What the programs over HEX cases share: the readers and the writer on examples and on the cases of a file, for the image of a part.
 #![tactic(auto)]
+
 ghost use Rattle.std.specs.Prelude.{◌<◌, ◌≤◌, length};
 
 use base::{IMAGE_4K, Profile};
 use hex_line::{Line, Reader};
 use hex_text::Text;
 use hex_write::Written;
+use std::io;
+use std::io::Read;
+use std::rt::Files;
 use test_support::{Case, Counts, print, print_number, read_edits};
 
 fn same(a: &[u8; IMAGE_4K], b: &[u8; IMAGE_4K]) -> bool {
-    check::same(a, b)
+    a == b
 }
 
 fn wide(x: u8) -> u64 {
@@ -55,38 +59,44 @@ pub fn read_by_bytes(text: &[u8], image: &mut [u8]) -> u64 {
 }
 
 // Prints both answers to a text, read whole and byte by byte.
-fn print_numbers(text: &[u8], whole: &mut [u8], pieces: &mut [u8]) {
-    print_number(wide(text_number(hex_text::read_text(text, whole))));
-    print(b" ");
-    print_number(read_by_bytes(text, pieces));
-    print(b" ");
+fn print_numbers(
+    rt: &impl Print,
+    text: &[u8],
+    whole: &mut [u8],
+    pieces: &mut [u8],
+) -> io::Result<()> {
+    print!(rt;
+        "{} {} ",
+        wide(text_number(hex_text::read_text(text, whole))),
+        read_by_bytes(text, pieces)
+    )
 }
 
 // Prints both answers to a text as an image file, and the text.
-pub fn example(profile: Profile, text: &[u8]) {
+pub fn example(rt: &impl Print, profile: Profile, text: &[u8]) -> io::Result<()> {
     let mut whole = [255u8; IMAGE_4K];
     let mut pieces = [255u8; IMAGE_4K];
     let n = base::image_length(profile);
-    print_numbers(text, &mut whole[..n], &mut pieces[..n]);
-    print(text);
-    print(b"\n");
+    print_numbers(rt, text, &mut whole[..n], &mut pieces[..n])?;
+    print(rt, text)?;
+    print(rt, b"\n")
 }
 
 // Prints the number of a line's answer, and of a line that is read where the next record may begin.
-fn print_answer(answer: Line) {
+fn print_answer(rt: &impl Print, answer: Line) -> io::Result<()> {
     match answer {
         Line::Read(reader) => {
-            print(b"0 next ");
-            print_number(reader.next as u64);
+            print!(rt; "0 next {}", reader.next)?;
         }
         Line::Refused(fault) => {
-            print_number(wide(hex_line::number(fault)));
+            print_number(rt, wide(hex_line::number(fault)))?;
         }
     }
+    Ok(())
 }
 
 // Prints the answer to a line behind a record that ended at 258 (0102H), whether the image is as it was, and the line.
-pub fn line_example(profile: Profile, line: &[u8]) {
+pub fn line_example(rt: &impl Print, profile: Profile, line: &[u8]) -> io::Result<()> {
     let kept = [255u8; IMAGE_4K];
     let mut image = [255u8; IMAGE_4K];
     let n = base::image_length(profile);
@@ -94,14 +104,14 @@ pub fn line_example(profile: Profile, line: &[u8]) {
         next: 258,
         ended: false,
     };
-    print_answer(hex_line::read_line(line, &mut image[..n], reader));
+    print_answer(rt, hex_line::read_line(line, &mut image[..n], reader))?;
     if same(&image, &kept) {
-        print(b" unchanged ");
+        print(rt, b" unchanged ")?;
     } else {
-        print(b" written ");
+        print(rt, b" written ")?;
     }
-    print(line);
-    print(b"\n");
+    print(rt, line)?;
+    print(rt, b"\n")
 }
 
 // The number of bytes that were written; or the refusal's.
@@ -113,52 +123,62 @@ pub fn written_number(answer: Written) -> u64 {
 }
 
 // Prints the answers for two images of a length that no part has: the readers' and the writer's.
-pub fn example_of_length(profile: Profile, image: &mut [u8], pieces: &mut [u8], out: &mut [u8]) {
-    print_numbers(b":00000001FF", image, pieces);
-    print_number(written_number(hex_write::write_image(profile, image, out)));
-    print(b" image of ");
-    print_number(image.len() as u64);
-    print(b" bytes\n");
+pub fn example_of_length(
+    rt: &impl Print,
+    profile: Profile,
+    image: &mut [u8],
+    pieces: &mut [u8],
+    out: &mut [u8],
+) -> io::Result<()> {
+    print_numbers(rt, b":00000001FF", image, pieces)?;
+    println!(rt;
+        "{} image of {} bytes",
+        written_number(hex_write::write_image(profile, image, out)),
+        image.len()
+    )
 }
 
 // Fills an image with the low byte of 7 times the address and the high byte.
 fn fill(image: &mut [u8]) {
-    let mut i: usize = 0;
-    while i < image.len() {
+    for i in 0..image.len() {
         image[i] = ((i % 256 * 7 + i / 256) % 256) as u8;
-        i += 1;
     }
 }
 
 // Prints the part of a text from `at` on, of this length.
-fn print_part(text: &[u8], at: usize, length: usize) {
+fn print_part(rt: &impl Print, text: &[u8], at: usize, length: usize) -> io::Result<()> {
     if at <= text.len() {
         if length <= text.len() - at {
             let end = at + length;
-            print(&text[at..end]);
+            print(rt, &text[at..end])?;
         }
     }
+    Ok(())
 }
 
 // Writes an image, prints its length, one of its records and the end line, and reads it back.
 pub fn write_and_read(
+    rt: &impl Print,
     profile: Profile,
     image: &mut [u8],
     out: &mut [u8],
     back: &mut [u8],
     at: usize,
-) {
+) -> io::Result<()> {
     fill(image);
-    print_number(written_number(hex_write::write_image(profile, image, out)));
-    print(b" bytes\n");
-    print_part(out, at, 44);
-    print_part(out, hex_write::text_length(profile) - 12, 12);
-    print_number(wide(text_number(hex_text::read_text(out, back))));
-    if check::same(image, back) {
-        print(b" read back\n");
+    println!(rt;
+        "{} bytes",
+        written_number(hex_write::write_image(profile, image, out))
+    )?;
+    print_part(rt, out, at, 44)?;
+    print_part(rt, out, hex_write::text_length(profile) - 12, 12)?;
+    print_number(rt, wide(text_number(hex_text::read_text(out, back))))?;
+    if &*image == &*back {
+        print(rt, b" read back\n")?;
     } else {
-        print(b" not read back\n");
+        print(rt, b" not read back\n")?;
     }
+    Ok(())
 }
 
 // Whether both readers give a text the number and the image that the case expects.
@@ -180,40 +200,55 @@ fn agrees(profile: Profile, text: &[u8], number: u8, expected: &[u8; IMAGE_4K], 
 }
 
 // Reads the rest of a case whose text has this length, and compares; one that is cut off differs. The index says in what pieces the text is read.
-fn compare(profile: Profile, fd: i32, text: &mut [u8], length: usize, index: u64) -> bool {
+fn compare(
+    profile: Profile,
+    file: &mut impl Read,
+    text: &mut [u8],
+    length: usize,
+    index: u64,
+) -> bool {
     if text.len() < length {
         return false;
     }
-    let got = io::read_full(fd, &mut text[..length]);
-    let number = test_support::read_byte(fd);
+    let got = test_support::read_full(file, &mut text[..length]);
+    let number = test_support::read_byte(file);
     let mut expected = [255u8; IMAGE_4K];
-    let whole = read_edits(fd, &mut expected) & (got == length);
+    let whole = read_edits(file, &mut expected) & (got == length);
     let step = (index % 61 + 1) as usize;
     agrees(profile, &text[..length], number, &expected, step) & whole
 }
 
-fn run_case(profile: Profile, fd: i32, counts: Counts) -> Case {
+fn run_case(
+    rt: &impl Print,
+    profile: Profile,
+    file: &mut impl Read,
+    counts: Counts,
+) -> io::Result<Case> {
     let mut two = [0u8; 2];
-    if io::read_full(fd, &mut two) == 0 {
-        return Case::End;
+    if test_support::read_full(file, &mut two) == 0 {
+        return Ok(Case::End);
     }
-    let mut text = io::large_buffer();
+    let mut text = [0u8; 65536];
     let length = test_support::word(two[0], two[1]) as usize;
-    if compare(profile, fd, &mut text, length, counts.compared) {
-        return Case::Same;
+    if compare(profile, file, &mut text, length, counts.compared) {
+        return Ok(Case::Same);
     }
-    if test_support::tells(counts) {
-        print(b" differs\n");
+    if test_support::tells(rt, counts)? {
+        print(rt, b" differs\n")?;
     }
-    Case::Differs
+    Ok(Case::Differs)
 }
 
 // Runs the cases of a file, and prints what differs.
-pub fn run_cases(profile: Profile, name: &[u8]) {
-    let fd = test_support::open(name);
+pub fn run_cases(
+    rt: &(impl Files + Print + Eprint),
+    profile: Profile,
+    name: &[u8],
+) -> io::Result<()> {
+    let mut file = test_support::open(rt, name)?;
     let mut counts = test_support::start();
     while counts.left > 0 {
-        counts = test_support::counted(counts, run_case(profile, fd, counts));
+        counts = test_support::counted(counts, run_case(rt, profile, &mut file, counts)?);
     }
-    test_support::finish(fd, counts);
+    test_support::finish(rt, file, counts)
 }

@@ -1,30 +1,29 @@
 // Decodes and encodes one instruction of every first byte, with the flags that it names, and the examples of the answers 7, 8, 10, 11 and 12; tells
 // every first byte's length.
 #![tactic(auto)]
+
 use base::{IMAGE_4K, RegAddr, RomAddr, byte_at};
 use decode::decode;
 use encode::{Encoded, encode};
 use isa::{Alu, Decoded, Flag, FlagSet, Implied, Instruction, Unary};
 use roundtrip::{Copied, copy_instruction};
+use std::io;
 use test_support::{print, print_field, print_hex, print_number};
 
-fn number(n: u8) {
-    print(b" ");
-    print_number(n as u64);
+fn number(rt: &impl Print, n: u8) -> io::Result<()> {
+    print!(rt; " {n}")
 }
 
-fn byte(b: u8) {
-    print(b" ");
-    print_hex(b as u64, 2);
+fn byte(rt: &impl Print, b: u8) -> io::Result<()> {
+    print!(rt; " {b:02x}")
 }
 
-fn word(w: u16) {
-    print(b" ");
-    print_hex(w as u64, 4);
+fn word(rt: &impl Print, w: u16) -> io::Result<()> {
+    print!(rt; " {w:04x}")
 }
 
 // A form by its number in the order of `Instruction`, and its operands in the form's order, 0 where it has none.
-#[derive(Drop)]
+#[derive(Clone, Copy)]
 struct Fields {
     form: u8,
     x: u8,
@@ -87,8 +86,9 @@ fn fields_of(i: Instruction) -> Fields {
 }
 
 // The address modes of a form, by its number.
-fn modes(form: u8) {
+fn modes(rt: &impl Print, form: u8) -> io::Result<()> {
     print_field(
+        rt,
         b"R............IR...........pop R........pop IR.......push R.......\
           push IR......inc r........r,r..........r,Ir.........R,R..........\
           R,IR.........R,IM.........ld R,R.......ld R,IR......ld IR,R......\
@@ -98,7 +98,7 @@ fn modes(form: u8) {
           ldc r,XL[rr].ldc XL[rr],r.r,DA.........DA,r.........jr...........\
           jp DA........jp IRR.......call DA......call IRR..................",
         13 * (form as usize),
-    );
+    )
 }
 
 // Numbers of names of operations.
@@ -167,23 +167,24 @@ fn operation(i: Instruction) -> u8 {
     }
 }
 
-fn operation_name(n: u8) {
+fn operation_name(rt: &impl Print, n: u8) -> io::Result<()> {
     print_field(
+        rt,
         b".....add .adc .sub .sbc .or ..and .tcm .tm ..cp ..\
           xor .dec .rlc .inc .com .rl ..clr .rrc .sra .rr ..\
           idle.stop.di...ei...ret..iret.rcf..scf..ccf..nop..\
           ldc .lde .",
         5 * (n as usize),
-    );
+    )
 }
 
-fn write_form(i: Instruction) {
-    operation_name(operation(i));
+fn write_form(rt: &impl Print, i: Instruction) -> io::Result<()> {
+    operation_name(rt, operation(i))?;
     let f = fields_of(i);
-    modes(f.form);
-    byte(f.x);
-    byte(f.y);
-    word(f.z);
+    modes(rt, f.form)?;
+    byte(rt, f.x)?;
+    byte(rt, f.y)?;
+    word(rt, f.z)
 }
 
 // An answer's number: of bytes, 1 to 4, or of the refusal.
@@ -215,14 +216,15 @@ fn copied(r: Copied) -> u8 {
     }
 }
 
-fn answer(n: u8) {
+fn answer(rt: &impl Print, n: u8) -> io::Result<()> {
     if n < 5 {
-        number(n);
-        print(b" bytes");
+        number(rt, n)?;
+        print(rt, b" bytes")?;
     } else {
-        print(b" refused");
-        number(n);
+        print(rt, b" refused")?;
+        number(rt, n)?;
     }
+    Ok(())
 }
 
 // A byte that was written, or EEH.
@@ -247,64 +249,73 @@ fn restored(i: Instruction, n: u8, bytes: &[u8; 4]) -> bool {
     let mut out = [0xEEu8; 6];
     let done = encoded(encode(i, &mut out));
     let wanted = first_of(n, bytes);
-    check::same(&out, &wanted) & (done == n)
+    (out == wanted) & (done == n)
 }
 
-fn flag(names: FlagSet, flag: Flag, letter: &[u8]) {
+fn flag(rt: &impl Print, names: FlagSet, flag: Flag, letter: &[u8]) -> io::Result<()> {
     if isa::names(names, flag) {
-        print(letter);
+        print(rt, letter)?;
     }
+    Ok(())
 }
 
 // The flags that an instruction names.
-fn flags(names: FlagSet) {
-    print(b" ");
+fn flags(rt: &impl Print, names: FlagSet) -> io::Result<()> {
+    print(rt, b" ")?;
     if names.0 == 0 {
-        print(b"-");
+        print(rt, b"-")?;
     }
-    flag(names, Flag::Carry, b"C");
-    flag(names, Flag::Zero, b"Z");
-    flag(names, Flag::Sign, b"S");
-    flag(names, Flag::Overflow, b"V");
+    flag(rt, names, Flag::Carry, b"C")?;
+    flag(rt, names, Flag::Zero, b"Z")?;
+    flag(rt, names, Flag::Sign, b"S")?;
+    flag(rt, names, Flag::Overflow, b"V")
 }
 
 // The form with its operands, length, cycles, flags, and whether it encodes to the same bytes.
-fn found(i: Instruction, n: u8, names: FlagSet, bytes: &[u8; 4]) {
-    print(b" ");
-    write_form(i);
-    print(b";");
-    number(n);
-    number(isa::cycles_of(bytes[0]));
-    flags(names);
+fn found(
+    rt: &impl Print,
+    i: Instruction,
+    n: u8,
+    names: FlagSet,
+    bytes: &[u8; 4],
+) -> io::Result<()> {
+    print(rt, b" ")?;
+    write_form(rt, i)?;
+    print(rt, b";")?;
+    number(rt, n)?;
+    number(rt, isa::cycles_of(bytes[0]))?;
+    flags(rt, names)?;
     if restored(i, n, bytes) {
-        print(b" same");
+        print(rt, b" same")?;
     } else {
-        print(b" other");
+        print(rt, b" other")?;
     }
+    Ok(())
 }
 
-fn row_name(first: u8, second: u8) {
-    print_hex(first as u64, 2);
-    byte(second);
-    print(b":");
+fn row_name(rt: &impl Print, first: u8, second: u8) -> io::Result<()> {
+    print_hex(rt, first as u64, 2)?;
+    byte(rt, second)?;
+    print(rt, b":")
 }
 
 // A row: what the bytes decode to, or the number of the refusal.
-fn row(first: u8, second: u8) {
+fn row(rt: &impl Print, first: u8, second: u8) -> io::Result<()> {
     let bytes = [first, second, 0x35, 0x46];
-    row_name(first, second);
+    row_name(rt, first, second)?;
     let d = decode(&bytes, 0);
     if let Decoded::Found(i, n, names) = d {
-        found(i, n, names, &bytes);
+        found(rt, i, n, names, &bytes)?;
     } else {
-        answer(decoded(d));
+        answer(rt, decoded(d))?;
     }
-    print(b"\n");
+    print(rt, b"\n")
 }
 
 // The name of an example: 0 to 13 encode, 14 to 22 decode.
-fn example(n: u8) {
+fn example(rt: &impl Print, n: u8) -> io::Result<()> {
     print_field(
+        rt,
         b"INC R16.....................ADD R16,R0..................ADD R0,R16..................\
           LD R16,#0...................JP condition 16.............LDC R0,#1000H[RR0]..........\
           LDE R0,#1000H[RR1]..........LDC #1000H[RR0],R0..........JP @01H.....................\
@@ -314,27 +325,27 @@ fn example(n: u8) {
           nothing there...............0AH.........................FFH 0AH at 1................\
           30H 01H.....................F4H 01H.....................",
         28 * (n as usize),
-    );
-    print(b":");
+    )?;
+    print(rt, b":")
 }
 
-fn decoding(n: u8, s: &[u8], at: usize) {
-    example(n);
-    answer(decoded(decode(s, at)));
-    print(b"\n");
+fn decoding(rt: &impl Print, n: u8, s: &[u8], at: usize) -> io::Result<()> {
+    example(rt, n)?;
+    answer(rt, decoded(decode(s, at)))?;
+    print(rt, b"\n")
 }
 
-fn decoding_examples() {
+fn decoding_examples(rt: &impl Print) -> io::Result<()> {
     let image = [0u8; IMAGE_4K];
-    decoding(14, &image, IMAGE_4K);
-    decoding(15, b"\xE6\xD9", 0);
-    decoding(16, b"\xA7\x24\x35", 0);
-    decoding(17, b"\x30", 0);
-    decoding(18, b"", 0);
-    decoding(19, b"\x0A", 0);
-    decoding(20, b"\xFF\x0A", 1);
-    decoding(21, b"\x30\x01", 0);
-    decoding(22, b"\xF4\x01", 0);
+    decoding(rt, 14, &image, IMAGE_4K)?;
+    decoding(rt, 15, b"\xE6\xD9", 0)?;
+    decoding(rt, 16, b"\xA7\x24\x35", 0)?;
+    decoding(rt, 17, b"\x30", 0)?;
+    decoding(rt, 18, b"", 0)?;
+    decoding(rt, 19, b"\x0A", 0)?;
+    decoding(rt, 20, b"\xFF\x0A", 1)?;
+    decoding(rt, 21, b"\x30\x01", 0)?;
+    decoding(rt, 22, b"\xF4\x01", 0)
 }
 
 // Encodes into the first bytes of a buffer.
@@ -372,23 +383,25 @@ fn room_of(n: u8) -> usize {
 }
 
 // Encoding, and whether the buffer is as it was.
-fn encoding(n: u8) {
+fn encoding(rt: &impl Print, n: u8) -> io::Result<()> {
     let mut out = [0xEEu8; 4];
     let before = [0xEEu8; 4];
-    example(n);
-    answer(encoded(encode_in(encoder_example(n), &mut out, room_of(n))));
-    if check::same(&out, &before) {
-        print(b" unchanged");
+    example(rt, n)?;
+    answer(
+        rt,
+        encoded(encode_in(encoder_example(n), &mut out, room_of(n))),
+    )?;
+    if out == before {
+        print(rt, b" unchanged")?;
     }
-    print(b"\n");
+    print(rt, b"\n")
 }
 
-fn encoding_examples() {
-    let mut n: u8 = 0;
-    while n < 14 {
-        encoding(n);
-        n += 1;
+fn encoding_examples(rt: &impl Print) -> io::Result<()> {
+    for n in 0..14u8 {
+        encoding(rt, n)?;
     }
+    Ok(())
 }
 
 // Copies into the first bytes of a buffer.
@@ -399,92 +412,96 @@ fn copy_in(s: &[u8], at: usize, out: &mut [u8], room: usize) -> Copied {
     copy_instruction(s, at, &mut out[..room])
 }
 
-fn bytes(b: &[u8; 4]) {
-    byte(b[0]);
-    byte(b[1]);
-    byte(b[2]);
-    byte(b[3]);
+fn bytes(rt: &impl Print, b: &[u8; 4]) -> io::Result<()> {
+    byte(rt, b[0])?;
+    byte(rt, b[1])?;
+    byte(rt, b[2])?;
+    byte(rt, b[3])
 }
 
-fn copy_name(at: u8, room: u8) {
-    print(b"copy at");
-    number(at);
-    print(b",");
-    number(room);
-    print(b" bytes:");
+fn copy_name(rt: &impl Print, at: u8, room: u8) -> io::Result<()> {
+    print(rt, b"copy at")?;
+    number(rt, at)?;
+    print(rt, b",")?;
+    number(rt, room)?;
+    print(rt, b" bytes:")
 }
 
 // Copying into a buffer of this length, at most 4, and what the buffer then holds.
-fn copying(at: u8, room: u8) {
+fn copying(rt: &impl Print, at: u8, room: u8) -> io::Result<()> {
     let mut out = [0xEEu8; 4];
-    copy_name(at, room);
-    answer(copied(copy_in(
-        b"\x01\x40\xE6\xD9\xC0\xF6\x01\x20\x8B\xFB\x0A\x30\x01\xB0",
-        at as usize,
-        &mut out,
-        room as usize,
-    )));
-    bytes(&out);
-    print(b"\n");
+    copy_name(rt, at, room)?;
+    answer(
+        rt,
+        copied(copy_in(
+            b"\x01\x40\xE6\xD9\xC0\xF6\x01\x20\x8B\xFB\x0A\x30\x01\xB0",
+            at as usize,
+            &mut out,
+            room as usize,
+        )),
+    )?;
+    bytes(rt, &out)?;
+    print(rt, b"\n")
 }
 
-fn copying_examples() {
-    copying(2, 4);
-    copying(5, 3);
-    copying(8, 3);
-    copying(5, 2);
-    copying(10, 4);
-    copying(11, 4);
-    copying(13, 4);
-    copying(14, 4);
+fn copying_examples(rt: &impl Print) -> io::Result<()> {
+    copying(rt, 2, 4)?;
+    copying(rt, 5, 3)?;
+    copying(rt, 8, 3)?;
+    copying(rt, 5, 2)?;
+    copying(rt, 10, 4)?;
+    copying(rt, 11, 4)?;
+    copying(rt, 13, 4)?;
+    copying(rt, 14, 4)
 }
 
 // The length that `isa` tells of a first byte, 0 where it starts no instruction; a line for each row of table 6-5.
-fn length(b: u8) {
-    print_number(isa::length_of(b) as u64);
+fn length(rt: &impl Print, b: u8) -> io::Result<()> {
+    print_number(rt, isa::length_of(b) as u64)?;
     if b % 16 == 15 {
-        print(b"\n");
+        print(rt, b"\n")?;
     }
+    Ok(())
 }
 
-fn first_byte(b: u8, lengths: bool) {
+fn first_byte(rt: &impl Print, b: u8, lengths: bool) -> io::Result<()> {
     if lengths {
-        length(b);
+        length(rt, b)?;
     } else {
-        row(b, 0x24);
+        row(rt, b, 0x24)?;
     }
+    Ok(())
 }
 
 // The rows of all first bytes, or their lengths.
-fn first_bytes(lengths: bool) {
-    let mut b: u16 = 0;
-    while b < 256 {
-        first_byte(b as u8, lengths);
-        b += 1;
+fn first_bytes(rt: &impl Print, lengths: bool) -> io::Result<()> {
+    for b in 0..=255u8 {
+        first_byte(rt, b, lengths)?;
     }
+    Ok(())
 }
 
 // Codes whose second byte says more: an odd pair, a direct address.
-fn second_bytes() {
-    row(0x30, 0x25);
-    row(0xF4, 0x25);
-    row(0xA7, 0x20);
-    row(0xA7, 0x21);
-    row(0xA7, 0x22);
-    row(0xA7, 0x23);
-    row(0xB7, 0x20);
-    row(0xB7, 0x21);
-    row(0xB7, 0x22);
-    row(0xB7, 0x23);
-    row(0xE2, 0x81);
-    row(0xC3, 0xF1);
+fn second_bytes(rt: &impl Print) -> io::Result<()> {
+    row(rt, 0x30, 0x25)?;
+    row(rt, 0xF4, 0x25)?;
+    row(rt, 0xA7, 0x20)?;
+    row(rt, 0xA7, 0x21)?;
+    row(rt, 0xA7, 0x22)?;
+    row(rt, 0xA7, 0x23)?;
+    row(rt, 0xB7, 0x20)?;
+    row(rt, 0xB7, 0x21)?;
+    row(rt, 0xB7, 0x22)?;
+    row(rt, 0xB7, 0x23)?;
+    row(rt, 0xE2, 0x81)?;
+    row(rt, 0xC3, 0xF1)
 }
 
-fn main() {
-    decoding_examples();
-    encoding_examples();
-    copying_examples();
-    first_bytes(false);
-    second_bytes();
-    first_bytes(true);
+fn main(rt: HostRuntime) -> io::Result<()> {
+    decoding_examples(&rt)?;
+    encoding_examples(&rt)?;
+    copying_examples(&rt)?;
+    first_bytes(&rt, false)?;
+    second_bytes(&rt)?;
+    first_bytes(&rt, true)
 }

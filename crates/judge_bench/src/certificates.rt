@@ -1,6 +1,7 @@
 // Checks of a certificate.
 use base::{IMAGE_4K, LONG_CERTIFICATE_LENGTH, Profile};
 use certificate::Verdict;
+use std::io;
 use test_support::{print, print_hex, print_number, put};
 
 // The entry of 0127H, the first of the groups.
@@ -16,11 +17,9 @@ fn load(bytes: &mut [u8], text: &[u8]) {
 // A part so many times, one behind the other.
 fn put_times(bytes: &mut [u8], at: usize, part: &[u8], times: usize) {
     let mut next = at;
-    let mut left = times;
-    while left > 0 {
+    for _ in 0..times {
         put(bytes, next, part);
         next = std::num::wrapping_add_usize(next, part.len());
-        left -= 1;
     }
 }
 
@@ -89,10 +88,8 @@ fn put_bound(cert: &mut [u8; LONG_CERTIFICATE_LENGTH], k: usize, n: u16) {
 
 // The bounds in the groups: their instructions cost 4, 4 and 6, RET behind them 8.
 fn put_bounds(cert: &mut [u8; LONG_CERTIFICATE_LENGTH]) {
-    let mut k: u16 = 0;
-    while k < 1500 {
+    for k in 0..1500u16 {
         put_bound(cert, k as usize, 8 + 14 * (500 - k / 3) - 4 * (k % 3));
-        k += 1;
     }
 }
 
@@ -134,27 +131,22 @@ fn check_times(
     count: u64,
 ) -> Verdict {
     let mut verdict = checker::check(Profile::Rom4K, image, cert);
-    let mut left = count;
-    while left > 1 {
+    for _ in 1..count {
         verdict = checker::check(Profile::Rom4K, image, cert);
-        left -= 1;
     }
     verdict
 }
 
-fn tell(v: Verdict) {
+fn tell(rt: &impl Print, v: Verdict) -> io::Result<()> {
     match v {
-        Verdict::Accepted => print(b" accepted\n"),
-        Verdict::Refused(n, a) => tell_refused(n, a.0),
+        Verdict::Accepted => print(rt, b" accepted\n")?,
+        Verdict::Refused(n, a) => tell_refused(rt, n, a.0)?,
     }
+    Ok(())
 }
 
-fn tell_refused(n: u8, a: u16) {
-    print(b" refused ");
-    print_number(n as u64);
-    print(b" ");
-    print_hex(a as u64, 4);
-    print(b"\n");
+fn tell_refused(rt: &impl Print, n: u8, a: u16) -> io::Result<()> {
+    println!(rt; " refused {n} {a:04x}")
 }
 
 fn count_of(what: u64) -> u64 {
@@ -183,9 +175,9 @@ fn fill(what: u64, image: &mut [u8; IMAGE_4K], cert: &mut [u8; LONG_CERTIFICATE_
 
 // 1 is a full certificate of 1,508 entries, checked 100 times, 2 one of main and service alone, 10,000 times, 3 one of zeros, a million times,
 // 4 a full one of 2,540 entries, of which 1,267 are of an LDC that reaches all of ROM, 1,000 times.
-pub fn work(what: u64) {
+pub fn work(rt: &impl Print, what: u64) -> io::Result<()> {
     let mut image = [255u8; IMAGE_4K];
     let mut cert = [0u8; LONG_CERTIFICATE_LENGTH];
     fill(what, &mut image, &mut cert);
-    tell(check_times(&image, &cert, count_of(what)));
+    tell(rt, check_times(&image, &cert, count_of(what)))
 }

@@ -2,6 +2,7 @@
 use base::{IMAGE_4K, Profile};
 use hex_text::Text;
 use hex_write::{TEXT_LENGTH_4K, Written};
+use std::io;
 use test_support::{print, print_number};
 
 // How often a text is read or written.
@@ -10,10 +11,8 @@ const TURNS: u64 = 20000;
 // The bytes of an image that has each value in each place modulo 256.
 fn image() -> [u8; IMAGE_4K] {
     let mut image = [0u8; IMAGE_4K];
-    let mut i = 0;
-    while i < IMAGE_4K {
+    for i in 0..IMAGE_4K {
         image[i] = (i % 256) as u8;
-        i += 1;
     }
     image
 }
@@ -60,34 +59,32 @@ fn turns(
     count: u64,
 ) -> u64 {
     let mut answer: u64 = 0;
-    let mut left = count;
-    while left > 0 {
+    for _ in 0..count {
         answer = turn(what, image, text, buffer);
-        left -= 1;
     }
     answer
 }
 
 fn same(a: &[u8; IMAGE_4K], b: &[u8; IMAGE_4K]) -> bool {
-    check::same(a, b)
+    a == b
 }
 
-fn tell(answer: u64, same: bool) {
-    print(b" ");
-    print_number(answer);
+fn tell(rt: &impl Print, answer: u64, same: bool) -> io::Result<()> {
+    print!(rt; " {answer}")?;
     if same {
-        print(b" same\n");
+        print(rt, b" same\n")?;
     } else {
-        print(b" differs\n");
+        print(rt, b" differs\n")?;
     }
+    Ok(())
 }
 
 // 5 reads a whole text, 6 reads it by feed and finish, 7 writes it, each 20,000 times.
-pub fn work(what: u64) {
+pub fn work(rt: &impl Print, what: u64) -> io::Result<()> {
     let image = image();
     let mut text = [0u8; TEXT_LENGTH_4K];
     let mut buffer = [0u8; IMAGE_4K];
     turn(7, &image, &mut text, &mut buffer);
     let answer = turns(what, &image, &mut text, &mut buffer, TURNS);
-    tell(answer, (what == 7) | same(&image, &buffer));
+    tell(rt, answer, (what == 7) | same(&image, &buffer))
 }

@@ -1,7 +1,11 @@
 // Makes schedules from seeds: published states, every length from 0 to 17, and the cases of the file sched.txt, and prints what differs.
 // A line of the file: seed, number of records, their digits, the state behind them; or seed, number of records, and the number of the refusal.
 #![tactic(auto)]
+
 use base::RECORD_LENGTH;
+use std::io;
+use std::io::Read;
+use std::rt::Files;
 use test_support::{Case, Counts, print, print_number, put};
 use xorshift::Filled;
 
@@ -30,10 +34,8 @@ fn put_bytes(line: &mut Line, records: &[u8; BYTES], n: usize) {
     if n > BYTES {
         return;
     }
-    let mut i: usize = 0;
-    while i < n {
+    for i in 0..n {
         put_byte(line, 2 * i, records[i]);
-        i += 1;
     }
 }
 
@@ -86,47 +88,46 @@ fn line_of(seed: u32, count: usize) -> Line {
 }
 
 // Reads the rest of a number of at most ten decimal digits, whose first character is given, and the character behind it.
-fn read_number(fd: i32, first: u8) -> u64 {
+fn read_number(file: &mut impl Read, first: u8) -> u64 {
     let mut number: u64 = 0;
     let mut b = first;
-    let mut left: u8 = 11;
-    while left > 0 {
+    for _ in 0..11 {
         if (b < 48) | (57 < b) {
             return number;
         }
         number = test_support::with_digit(number, b);
-        b = test_support::read_byte(fd);
-        left -= 1;
+        b = test_support::read_byte(file);
     }
     number
 }
 
-fn run_case(fd: i32, counts: Counts) -> Case {
-    let first = test_support::read_byte(fd);
+fn run_case(rt: &impl Print, file: &mut impl Read, counts: Counts) -> io::Result<Case> {
+    let first = test_support::read_byte(file);
     if first == 0 {
-        return Case::End;
+        return Ok(Case::End);
     }
-    let seed = read_number(fd, first);
-    let count = read_number(fd, test_support::read_byte(fd));
+    let seed = read_number(file, first);
+    let first_of_count = test_support::read_byte(file);
+    let count = read_number(file, first_of_count);
     let mut line = [0u8; LINE];
-    test_support::read_line(fd, &mut line);
+    test_support::read_line(file, &mut line);
     let made = line_of((seed % 4294967296) as u32, count as usize);
-    if check::same(&line, &made) {
-        return Case::Same;
+    if line == made {
+        return Ok(Case::Same);
     }
-    if test_support::tells(counts) {
-        print(b" differs\n");
+    if test_support::tells(rt, counts)? {
+        print(rt, b" differs\n")?;
     }
-    Case::Differs
+    Ok(Case::Differs)
 }
 
-fn run_cases() {
-    let fd = test_support::open(b"sched.txt");
+fn run_cases(rt: &(impl Files + Print + Eprint)) -> io::Result<()> {
+    let mut file = test_support::open(rt, b"sched.txt")?;
     let mut counts = test_support::start();
     while counts.left > 0 {
-        counts = test_support::counted(counts, run_case(fd, counts));
+        counts = test_support::counted(counts, run_case(rt, &mut file, counts)?);
     }
-    test_support::finish(fd, counts);
+    test_support::finish(rt, file, counts)
 }
 
 // The record of two states: the lowest byte first, bits 5 to 7 of byte 0 cleared.
@@ -153,31 +154,28 @@ fn state_of(answer: Filled) -> u32 {
 
 // Makes one record. Prints the two published states that it should hold, and `differ` if the record or the state that came back is another. Answers that
 // state, which should be the second.
-fn compare_record(seed: u32, first: u32, second: u32) -> u32 {
+fn compare_record(rt: &impl Print, seed: u32, first: u32, second: u32) -> io::Result<u32> {
     let mut record = [0u8; RECORD_LENGTH];
     let state = state_of(xorshift::fill(seed, &mut record));
-    print(b" ");
-    print_number(first as u64);
-    print(b" ");
-    print_number(second as u64);
-    let same = check::same(&record, &record_of(first, second));
+    print!(rt; " {first} {second}")?;
+    let same = record == record_of(first, second);
     if !(same & (state == second)) {
-        print(b" differ");
+        print(rt, b" differ")?;
     }
-    state
+    Ok(state)
 }
 
 // The first six states, as they are published.
-fn published() {
-    print(b"1:");
-    let a = compare_record(1, 270369, 67634689);
-    let b = compare_record(a, 2647435461, 307599695);
-    compare_record(b, 2398689233, 745495504);
-    print(b"\n2463534242:");
-    let c = compare_record(2463534242, 723471715, 2497366906);
-    let d = compare_record(c, 2064144800, 2008045182);
-    compare_record(d, 3532304609, 374114282);
-    print(b"\n");
+fn published(rt: &impl Print) -> io::Result<()> {
+    print(rt, b"1:")?;
+    let a = compare_record(rt, 1, 270369, 67634689)?;
+    let b = compare_record(rt, a, 2647435461, 307599695)?;
+    compare_record(rt, b, 2398689233, 745495504)?;
+    print(rt, b"\n2463534242:")?;
+    let c = compare_record(rt, 2463534242, 723471715, 2497366906)?;
+    let d = compare_record(rt, c, 2064144800, 2008045182)?;
+    compare_record(rt, d, 3532304609, 374114282)?;
+    print(rt, b"\n")
 }
 
 // The number of an answer, 0 where the buffer was filled.
@@ -189,32 +187,29 @@ fn number_of(answer: Filled) -> u8 {
 }
 
 // Prints the answer to a seed and a length, and whether a refused buffer has changed.
-fn fill_length(seed: u32, length: usize) {
+fn fill_length(rt: &impl Print, seed: u32, length: usize) -> io::Result<()> {
     let mut buffer = [0xA5u8; 18];
     let number = number_of(fill_front(seed, &mut buffer, length));
-    print(b" ");
-    print_number(number as u64);
-    let same = check::same(&buffer, &[0xA5u8; 18]);
+    print!(rt; " {number}")?;
+    let same = buffer == [0xA5u8; 18];
     if (number != 0) & !same {
-        print(b" changed");
+        print(rt, b" changed")?;
     }
+    Ok(())
 }
 
 // Every length from 0 to 17.
-fn fill_lengths(seed: u32) {
-    print_number(seed as u64);
-    print(b":");
-    let mut length: usize = 0;
-    while length < 18 {
-        fill_length(seed, length);
-        length += 1;
+fn fill_lengths(rt: &impl Print, seed: u32) -> io::Result<()> {
+    print!(rt; "{seed}:")?;
+    for length in 0..18 {
+        fill_length(rt, seed, length)?;
     }
-    print(b"\n");
+    print(rt, b"\n")
 }
 
-fn main() {
-    published();
-    fill_lengths(0);
-    fill_lengths(1);
-    run_cases();
+fn main(rt: HostRuntime) -> io::Result<()> {
+    published(&rt)?;
+    fill_lengths(&rt, 0)?;
+    fill_lengths(&rt, 1)?;
+    run_cases(&rt)
 }

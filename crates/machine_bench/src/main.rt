@@ -2,9 +2,11 @@
 // Every run's schedule is the first 1,000 records that the seed gives, over and over, so that making them takes no time of it.
 // `bench/run` times it and prints a table; the gate's run is short and compares what each program leaves.
 #![tactic(auto)]
+
 use base::{IMAGE_4K, Profile};
 use bench_programs::{SCHEDULE, make_part, program, schedule, tell};
 use semantics::{Configuration, State};
+use std::io;
 use test_support::{Rows, print, print_number};
 
 // The program from reset for `parts` parts.
@@ -14,57 +16,55 @@ fn run_parts(image: &[u8; IMAGE_4K], records: &[u8; SCHEDULE], parts: u64) -> St
         entry_cost: 0,
     };
     let mut state = machine::reset();
-    let mut left = parts;
-    while left > 0 {
+    for _ in 0..parts {
         let r = machine::run(configuration, image, state, records);
         state = r.state;
-        left -= 1;
     }
     state
 }
 
 // The program of a row from reset.
-fn work(what: u64, count: u64, seed: u32) {
-    tell(what, run_parts(&program(what), &schedule(seed), count));
+fn work(rt: &impl Print, what: u64, count: u64, seed: u32) -> io::Result<()> {
+    tell(rt, what, run_parts(&program(what), &schedule(seed), count))
 }
 
 // Makes `parts` parts, each from the state behind the one before, and answers the last state.
 fn make_parts(seed: u32, parts: u64) -> u32 {
     let mut records = [0u8; SCHEDULE];
     let mut state = seed;
-    let mut left = parts;
-    while left > 0 {
+    for _ in 0..parts {
         state = make_part(state, &mut records);
-        left -= 1;
     }
     state
 }
 
 // Two calls of `work` keep it a function of its own. With one the compiler puts it into its caller, and a step takes 3 in a hundred more instructions.
-fn work_rows(rows: Rows, count: u64, seed: u32) {
+fn work_rows(rt: &impl Print, rows: Rows, count: u64, seed: u32) -> io::Result<()> {
     let last = rows.last;
     let mut what = rows.first;
-    work(what, count, seed);
+    work(rt, what, count, seed)?;
     while what < last {
         what += 1;
-        work(what, count, seed);
+        work(rt, what, count, seed)?;
     }
+    Ok(())
 }
 
-fn bench(what: u64, count: u64, seed: u32) {
+fn bench(rt: &impl Print, what: u64, count: u64, seed: u32) -> io::Result<()> {
     if what != 14 {
-        work_rows(test_support::rows_of(what, 13), count, seed);
+        work_rows(rt, test_support::rows_of(what, 13), count, seed)?;
     }
     if (what == 0) | (what == 14) {
-        print_number(make_parts(seed, count) as u64);
-        print(b"\n");
+        println!(rt; "{}", make_parts(seed, count))?;
     }
+    Ok(())
 }
 
 // 14 makes records.
-fn main() {
-    let a = bench_programs::read_arguments();
+fn main(rt: HostRuntime) -> io::Result<()> {
+    let a = bench_programs::read_arguments(&rt)?;
     if a.seed != 0 {
-        bench(a.what, a.count, a.seed);
+        bench(&rt, a.what, a.count, a.seed)?;
     }
+    Ok(())
 }

@@ -68,7 +68,7 @@ pub fn same_state(state: State, bytes: &[u8]) -> bool {
     (pc.0 == word_at(bytes, PC))
         & (mode_number(mode) == byte_at(bytes, MODE))
         & (state.cycles == long_at(bytes, CYCLES))
-        & check::same(&regs, &registers_of(bytes))
+        & (regs == registers_of(bytes))
 }
 
 // Whether the machine has all of a state that is given as bytes: it has no divider yet.

@@ -1,10 +1,11 @@
 // Coverage maps as the vector files give them, a list of marked addresses. Made apart from `coverage::mark`, since the test programs compare what that has marked.
 #![tactic(auto)]
 use base::LARGEST_ROM;
-use coverage::{Map, WORDS};
+use coverage::Map;
+use std::io::Read;
 
 // How a list of addresses was read: whether the file has them all and they are of ROM, and whether each is another.
-#[derive(Drop)]
+#[derive(Clone, Copy)]
 pub struct Marks {
     pub whole: bool,
     pub distinct: bool,
@@ -23,9 +24,9 @@ fn mark(map: &mut Map, a: u16) -> bool {
 }
 
 // Marks the next address of a file.
-fn read_mark(fd: i32, map: &mut Map) -> Marks {
+fn read_mark(file: &mut impl Read, map: &mut Map) -> Marks {
     let mut two = [0u8; 2];
-    let n = io::read_full(fd, &mut two);
+    let n = test_support::read_full(file, &mut two);
     let a = test_support::word(two[0], two[1]);
     Marks {
         whole: (n == 2) & (a < LARGEST_ROM),
@@ -34,31 +35,22 @@ fn read_mark(fd: i32, map: &mut Map) -> Marks {
 }
 
 // Marks the next addresses of a file, so many.
-pub fn read_marks(fd: i32, count: u16, map: &mut Map) -> Marks {
+pub fn read_marks(file: &mut impl Read, count: u16, map: &mut Map) -> Marks {
     let mut marks = Marks {
         whole: true,
         distinct: true,
     };
-    let mut left = count;
-    while left > 0 {
-        let next = read_mark(fd, map);
+    for _ in 0..count {
+        let next = read_mark(file, map);
         marks = Marks {
             whole: marks.whole & next.whole,
             distinct: marks.distinct & next.distinct,
         };
-        left -= 1;
     }
     marks
 }
 
 // Whether two maps have the same marks.
 pub fn same_map(a: &Map, b: &Map) -> bool {
-    let mut i = 0;
-    while i < WORDS {
-        if a[i] != b[i] {
-            return false;
-        }
-        i += 1;
-    }
-    true
+    a == b
 }

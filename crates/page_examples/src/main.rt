@@ -3,14 +3,16 @@
 // example does not name has to stay as it was: all 256 registers, program counter, mode, cycle total and refusal are compared. What a page
 // leaves open (RAM, FLAGS, SP) is tried as all zeros and as all ones.
 #![tactic(auto)]
+
 ghost use Rattle.std.specs.Prelude.{◌<◌};
 
 use base::{FLAGS_INDEX, IMAGE_4K, Profile, RECORD_LENGTH, RomAddr, SP, SP_INDEX, byte_at};
 use semantics::{Configuration, Mode, Ran, State, Stepped};
+use std::io;
 use test_support::{hex_byte, hex_value, print, print_hex, store};
 
 // What the left side of a `=` names.
-#[derive(Drop)]
+#[derive(Clone, Copy)]
 enum Key {
     Register(u8),
     Rom(u16),
@@ -24,7 +26,7 @@ enum Key {
 }
 
 // The machine beside its registers and ROM; the number of steps; the address behind the code; whether the text could be read.
-#[derive(Drop)]
+#[derive(Clone, Copy)]
 struct Rest {
     pc: u16,
     mode: u8,
@@ -36,7 +38,7 @@ struct Rest {
 }
 
 // The first difference: a register's address, or one of the numbers below.
-#[derive(Drop)]
+#[derive(Clone, Copy)]
 struct Difference {
     place: usize,
     found: u64,
@@ -59,7 +61,7 @@ const NONE: usize = 261;
 const MOST_STEPS: usize = 8;
 
 // The position in the text, the line of the last `given`, and the numbers of examples that were compared, and that differ.
-#[derive(Drop)]
+#[derive(Clone, Copy)]
 struct Walk {
     at: usize,
     given: usize,
@@ -73,12 +75,10 @@ fn plus(at: usize, n: usize) -> usize {
 
 // The first place of a byte from `at` on, or `end`.
 fn find(text: &[u8], at: usize, end: usize, b: u8) -> usize {
-    let mut i = at;
-    while i < end {
+    for i in at..end {
         if byte_at(text, i) == b {
             return i;
         }
-        i += 1;
     }
     end
 }
@@ -301,17 +301,15 @@ fn words(
     image: &mut [u8; IMAGE_4K],
     rest: Rest,
 ) -> Rest {
-    let mut turns = 1000usize;
     let mut at = from;
     let mut r = rest;
-    while turns > 0 {
+    for _ in 0..1000 {
         if at >= end {
             return r;
         }
         let behind = find(text, at, end, b' ');
         r = word(text, at, behind, regs, image, r);
         at = plus(behind, 1);
-        turns -= 1;
     }
     unreadable(r)
 }
@@ -320,10 +318,8 @@ fn words(
 fn open_registers(open: u8) -> [u8; 256] {
     let state = machine::reset();
     let mut regs = state.regs;
-    let mut i = 0;
-    while i < 0xD0 {
+    for i in 0..0xD0 {
         regs[i] = open;
-        i += 1;
     }
     regs[FLAGS_INDEX] = open & 0xF0;
     regs[SP_INDEX] = open;
@@ -451,12 +447,10 @@ fn rest_difference(found: Rest, expected: Rest) -> Difference {
 
 // The first register that differs, or else the difference beside them.
 fn first_difference(found: &[u8; 256], expected: &[u8; 256], rest: Difference) -> Difference {
-    let mut i = 0;
-    while i < 256 {
+    for i in 0..256 {
         if found[i] != expected[i] {
             return differs(i, wide(found[i]), wide(expected[i]));
         }
-        i += 1;
     }
     rest
 }
@@ -503,41 +497,38 @@ fn example(text: &[u8], given: usize, at: usize, end: usize, open: u8) -> Differ
 }
 
 // Writes the text from `at` to `end`.
-fn print_part(text: &[u8], at: usize, end: usize) {
+fn print_part(rt: &impl Print, text: &[u8], at: usize, end: usize) -> io::Result<()> {
     if end <= text.len() {
         if at <= end {
-            print(&text[at..end]);
+            print(rt, &text[at..end])?;
         }
     }
+    Ok(())
 }
 
 // What a difference is about.
-fn print_place(place: usize) {
+fn print_place(rt: &impl Print, place: usize) -> io::Result<()> {
     match place {
-        256 => print(b"program counter"),
-        257 => print(b"mode"),
-        258 => print(b"cycles"),
-        259 => print(b"refusal"),
-        260 => print(b"unreadable"),
-        _ => print_register(place),
+        256 => print(rt, b"program counter")?,
+        257 => print(rt, b"mode")?,
+        258 => print(rt, b"cycles")?,
+        259 => print(rt, b"refusal")?,
+        260 => print(rt, b"unreadable")?,
+        _ => print_register(rt, place)?,
     }
+    Ok(())
 }
 
-fn print_register(place: usize) {
-    print(b"register ");
-    print_hex(place as u64, 2);
+fn print_register(rt: &impl Print, place: usize) -> io::Result<()> {
+    print!(rt; "register {place:02x}")
 }
 
 // Tells of an example that differs.
-fn tell(text: &[u8], at: usize, end: usize, d: Difference) {
-    print_part(text, at, find(text, at, end, b':'));
-    print(b"differs: ");
-    print_place(d.place);
-    print(b" found ");
-    print_hex(d.found, 2);
-    print(b" expected ");
-    print_hex(d.expected, 2);
-    print(b"\n");
+fn tell(rt: &impl Print, text: &[u8], at: usize, end: usize, d: Difference) -> io::Result<()> {
+    print_part(rt, text, at, find(text, at, end, b':'))?;
+    print(rt, b"differs: ")?;
+    print_place(rt, d.place)?;
+    println!(rt; " found {:02x} expected {:02x}", d.found, d.expected)
 }
 
 // The difference with the open registers all zeros, or else with all ones.
@@ -550,63 +541,61 @@ fn either_difference(text: &[u8], given: usize, at: usize, end: usize) -> Differ
 }
 
 // Compares the example of a line.
-fn compare(text: &[u8], at: usize, end: usize, walk: Walk) -> Walk {
+fn compare(rt: &impl Print, text: &[u8], at: usize, end: usize, walk: Walk) -> io::Result<Walk> {
     let d = either_difference(text, walk.given, at, end);
     let mut w = walk;
     w.compared = std::num::wrapping_add_u64(walk.compared, 1);
     if d.place < NONE {
-        tell(text, at, end, d);
+        tell(rt, text, at, end, d)?;
         w.differ = std::num::wrapping_add_u64(walk.differ, 1);
     }
-    w
+    Ok(w)
 }
 
 // The line that begins at the position: a comment, what a page gives, or an example.
-fn line(text: &[u8], end: usize, walk: Walk) -> Walk {
+fn line(rt: &impl Print, text: &[u8], end: usize, walk: Walk) -> io::Result<Walk> {
     let at = walk.at;
     let first = byte_at(text, at);
     if (at == end) | (first == b'#') {
-        return walk;
+        return Ok(walk);
     }
     if first == b'g' {
         let mut w = walk;
         w.given = at;
-        return w;
+        return Ok(w);
     }
-    compare(text, at, end, walk)
+    compare(rt, text, at, end, walk)
 }
 
 // One line, and on to the next.
-fn next_line(text: &[u8], walk: Walk) -> Walk {
+fn next_line(rt: &impl Print, text: &[u8], walk: Walk) -> io::Result<Walk> {
     let end = find(text, walk.at, text.len(), b'\n');
-    let mut w = line(text, end, walk);
+    let mut w = line(rt, text, end, walk)?;
     w.at = plus(end, 1);
-    w
+    Ok(w)
 }
 
 // All lines; the number of turns is one that no text uses up.
-fn lines(text: &[u8]) -> Walk {
-    let mut turns = 100000usize;
+fn lines(rt: &impl Print, text: &[u8]) -> io::Result<Walk> {
     let mut walk = Walk {
         at: 0,
         given: 0,
         compared: 0,
         differ: 0,
     };
-    while turns > 0 {
+    for _ in 0..100000 {
         if walk.at >= text.len() {
-            return walk;
+            return Ok(walk);
         }
-        walk = next_line(text, walk);
-        turns -= 1;
+        walk = next_line(rt, text, walk)?;
     }
-    walk
+    Ok(walk)
 }
 
-fn main() {
-    let fd = test_support::open(b"examples.txt");
-    let mut buffer = io::large_buffer();
-    let n = io::read_full(fd, &mut buffer);
-    let walk = lines(&buffer[..n]);
-    test_support::print_counts(walk.compared, walk.differ);
+fn main(rt: HostRuntime) -> io::Result<()> {
+    let mut file = test_support::open(&rt, b"examples.txt")?;
+    let mut buffer = [0u8; 65536];
+    let n = test_support::read_full(&mut file, &mut buffer);
+    let walk = lines(&rt, &buffer[..n])?;
+    test_support::print_counts(&rt, walk.compared, walk.differ)
 }

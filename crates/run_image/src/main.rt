@@ -1,26 +1,23 @@
 // Runs the program in `image.hex` from reset for 100 steps, and prints where it is then.
 #![tactic(auto)]
+
 use base::{IMAGE_4K, Profile, RECORD_LENGTH};
 use hex_text::Text;
-use libc::STDOUT_FILENO;
 use semantics::Configuration;
+use std::io;
+use std::rt::Files;
 
 // Reads a file of Intel HEX, of at most 65,536 bytes, into an image. A missing file counts as empty, which is refused by 6.
-fn read_image(name: &[u8], image: &mut [u8; IMAGE_4K]) -> Text {
-    let mut text = io::large_buffer();
-    let fd = os::open_read(name);
-    let n = io::read_full(fd, &mut text);
-    libc::close(fd);
+fn read_image(rt: &impl Files, name: &[u8], image: &mut [u8; IMAGE_4K]) -> Text {
+    let mut text = [0u8; 65536];
+    let n = match reading::open(rt, name) {
+        Ok(mut file) => reading::read_full(&mut file, &mut text),
+        Err(_) => 0,
+    };
     hex_text::read_text(&text[..n], image)
 }
 
-fn print(name: &[u8], value: u64) {
-    io::write_all(STDOUT_FILENO, name);
-    io::print_decimal(STDOUT_FILENO, value);
-    io::write_all(STDOUT_FILENO, b"\n");
-}
-
-fn run(image: &[u8; IMAGE_4K]) {
+fn run(rt: &impl Print, image: &[u8; IMAGE_4K]) -> io::Result<()> {
     // A record for each step. Record 50 requests the interrupt of timer 0.
     let mut schedule = [0u8; 100 * RECORD_LENGTH];
     schedule[50 * RECORD_LENGTH] = 0x01;
@@ -31,21 +28,18 @@ fn run(image: &[u8; IMAGE_4K]) {
     };
     let ran = machine::run(configuration, image, machine::reset(), &schedule);
     let state = ran.state;
-    let pc = state.pc;
     // The number that ended the run, 0 if none did.
-    print(b"number ", ran.stop as u64);
-    print(b"steps ", ran.steps as u64);
-    print(b"cycles ", state.cycles as u64);
-    io::write_all(STDOUT_FILENO, b"program counter ");
-    io::print_hex(STDOUT_FILENO, pc.0 as u64, 4);
-    io::write_all(STDOUT_FILENO, b"\n");
+    println!(rt; "number {}", ran.stop)?;
+    println!(rt; "steps {}", ran.steps)?;
+    println!(rt; "cycles {}", state.cycles)?;
+    println!(rt; "program counter {:04x}", state.pc.0)
 }
 
-fn main() {
+fn main(rt: HostRuntime) -> io::Result<()> {
     // FFH stays where the file has no record.
     let mut image = [0xFFu8; IMAGE_4K];
-    match read_image(b"image.hex", &mut image) {
-        Text::Read => run(&image),
-        Text::Refused(number) => print(b"image.hex refused by ", number as u64),
+    match read_image(&rt, b"image.hex", &mut image) {
+        Text::Read => run(&rt, &image),
+        Text::Refused(number) => println!(rt; "image.hex refused by {number}"),
     }
 }

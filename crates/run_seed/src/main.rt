@@ -2,11 +2,16 @@
 // code it reached: whoever has the files, the seed and the number of records gets the same text. The part is 4K or 2K, 4K if it is not named. The cycles
 // of an interrupt entry and the starts of instructions are those of `cert.hex`; without that file an entry takes none.
 #![tactic(auto)]
+
+ghost use Rattle.std.specs.Prelude.{◌≤◌, length};
+
 use base::{IMAGE_2K, IMAGE_4K, LONG_CERTIFICATE_LENGTH, Profile, RECORD_LENGTH, RomAddr};
 use coverage::{Map, WORDS};
 use hex_text::Text;
-use libc::{STDERR_FILENO, STDOUT_FILENO};
 use semantics::{Configuration, Mode, Ran, State};
+use std::io;
+use std::io::Read;
+use std::rt::{Env, Files};
 use uncovered::Lowest;
 use xorshift::Filled;
 
@@ -21,7 +26,7 @@ const SCHEDULE: usize = (PART as usize) * RECORD_LENGTH;
 const GREATEST: u64 = 4294967295;
 
 // Where a run is: the machine, the steps done, the number that ended it, and, where none did, the seed of the records that follow.
-#[derive(Drop)]
+#[derive(Clone, Copy)]
 struct Progress {
     state: State,
     steps: u64,
@@ -53,9 +58,19 @@ fn number(text: &[u8]) -> u64 {
     n
 }
 
-fn argument(i: usize) -> u64 {
+// Puts an argument at a buffer's front, and answers its length, 0 where there is none that fits.
+fn read_argument(rt: &impl Env, i: usize, text: &mut [u8]) -> usize
+    ensures { result ≤ length text.new }
+{
+    match rt.arg(i, text) {
+        Ok(n) => n,
+        Err(_) => 0,
+    }
+}
+
+fn argument(rt: &impl Env, i: usize) -> u64 {
     let mut text = [0u8; 16];
-    let n = os::arg(i, &mut text);
+    let n = read_argument(rt, i, &mut text);
     number(&text[..n])
 }
 
@@ -136,168 +151,184 @@ fn run_parts(
     run_part(configuration, image, p, left, map)
 }
 
-fn print(text: &[u8]) {
-    io::write_all(STDOUT_FILENO, text);
+fn print_row(rt: &impl Print, name: &str, value: u64) -> io::Result<()> {
+    println!(rt; "{name} {value}")
 }
 
-fn print_row(name: &[u8], value: u64) {
-    print(name);
-    io::print_decimal(STDOUT_FILENO, value);
-    print(b"\n");
+fn print_address(rt: &impl Print, name: &str, a: RomAddr) -> io::Result<()> {
+    println!(rt; "{name} {:04x}", a.0)
 }
 
-fn print_address(name: &[u8], a: RomAddr) {
-    print(name);
-    io::print_hex(STDOUT_FILENO, a.0 as u64, 4);
-    print(b"\n");
+fn print_refused(rt: &impl Print, number: u8) -> io::Result<()> {
+    print_row(rt, "cert.hex refused by", number as u64)
 }
 
-fn print_refused(number: u8) {
-    print_row(b"cert.hex refused by ", number as u64);
-}
-
-fn print_mode(mode: Mode) {
-    match mode {
-        Mode::Running => print(b"mode running\n"),
-        Mode::Idle => print(b"mode idle\n"),
-        Mode::Stopped => print(b"mode stopped\n"),
-    }
+fn print_mode(rt: &impl Print, mode: Mode) -> io::Result<()> {
+    rt.println(match mode {
+        Mode::Running => "mode running",
+        Mode::Idle => "mode idle",
+        Mode::Stopped => "mode stopped",
+    })
 }
 
 // The register file, sixteen bytes a row.
-fn print_registers(state: State) {
+fn print_registers(rt: &impl Print, state: State) -> io::Result<()> {
     let regs = state.regs;
-    let mut i: usize = 0;
-    while i < 256 {
-        io::print_hex(STDOUT_FILENO, regs[i] as u64, 2);
-        if i % 16 == 15 {
-            print(b"\n");
-        } else {
-            print(b" ");
-        }
-        i += 1;
+    for i in 0..256 {
+        let separator = if i % 16 == 15 { "\n" } else { " " };
+        print!(rt; "{:02x}{separator}", regs[i])?;
     }
+    Ok(())
 }
 
 // Reads a certificate's text from an open file, piece by piece: one that is not full is the last. No file has more pieces than it may read.
-fn read_pieces(fd: i32, cert: &mut Certificate) -> Text {
+fn read_pieces(file: &mut impl Read, cert: &mut Certificate) -> Text {
     let mut s = hex_text::start();
-    let mut left = u64::MAX;
-    while left > 0 {
-        let mut piece = io::buffer();
-        let n = io::read_full(fd, &mut piece);
+    for _ in 0..u64::MAX {
+        let mut piece = [0u8; 4096];
+        let n = reading::read_full(file, &mut piece);
         s = hex_text::feed(s, &piece[..n], cert);
         if n < piece.len() {
             break;
         }
-        left -= 1;
     }
     hex_text::finish(s, LONG_CERTIFICATE_LENGTH)
 }
 
 // Prints the lowest start of a certificate that the run has not reached.
-fn tell_lowest(cert: &Certificate, map: &Map) {
+fn tell_lowest(rt: &impl Print, cert: &Certificate, map: &Map) -> io::Result<()> {
     match uncovered::lowest_unmarked(cert, map) {
-        Lowest::At(a) => print_address(b"lowest unmarked start ", a),
-        Lowest::AllMarked => print(b"every start is marked\n"),
-        Lowest::Refused(number) => print_refused(number),
+        Lowest::At(a) => print_address(rt, "lowest unmarked start", a),
+        Lowest::AllMarked => rt.println("every start is marked"),
+        Lowest::Refused(number) => print_refused(rt, number),
     }
 }
 
 // Prints what a run leaves, and how much code it has reached.
-fn tell(p: Progress, map: &Map) {
+fn tell(rt: &impl Print, p: Progress, map: &Map) -> io::Result<()> {
     let state = p.state;
     let pc = state.pc;
     let mode = state.mode;
-    print_row(b"number ", p.stop as u64);
-    print_row(b"steps ", p.steps);
-    print_row(b"cycles ", state.cycles as u64);
-    print_address(b"program counter ", pc);
-    print_mode(mode);
+    print_row(rt, "number", p.stop as u64)?;
+    print_row(rt, "steps", p.steps)?;
+    print_row(rt, "cycles", state.cycles as u64)?;
+    print_address(rt, "program counter", pc)?;
+    print_mode(rt, mode)?;
     if p.stop == 0 {
-        print_row(b"next seed ", p.seed as u64);
+        print_row(rt, "next seed", p.seed as u64)?;
     }
-    print_row(b"marked ", coverage::count(map) as u64);
+    print_row(rt, "marked", coverage::count(map) as u64)
 }
 
 // Reads a file of Intel HEX, of at most 65,536 bytes, into an image. A missing file counts as empty, which is refused by 6.
-fn read_image(name: &[u8], image: &mut [u8]) -> Text {
-    let mut text = io::large_buffer();
-    let fd = os::open_read(name);
-    let n = io::read_full(fd, &mut text);
-    libc::close(fd);
+fn read_image(rt: &impl Files, name: &[u8], image: &mut [u8]) -> Text {
+    let mut text = [0u8; 65536];
+    let n = match reading::open(rt, name) {
+        Ok(mut file) => reading::read_full(&mut file, &mut text),
+        Err(_) => 0,
+    };
     hex_text::read_text(&text[..n], image)
 }
 
 // Runs, and tells; without a certificate an entry takes no cycles, and nothing is known of starts.
-fn run_alone(profile: Profile, image: &[u8], seed: u32, count: u64) {
+fn run_alone(
+    rt: &impl Print,
+    profile: Profile,
+    image: &[u8],
+    seed: u32,
+    count: u64,
+) -> io::Result<()> {
     let mut map: Map = [0; WORDS];
     let configuration = Configuration {
         profile: profile,
         entry_cost: 0,
     };
     let p = run_parts(configuration, image, seed, count, &mut map);
-    tell(p, &map);
-    print_registers(p.state);
+    tell(rt, p, &map)?;
+    print_registers(rt, p.state)
 }
 
 // The same with a certificate.
-fn run_certified(profile: Profile, image: &[u8], cert: &Certificate, seed: u32, count: u64) {
+fn run_certified(
+    rt: &impl Print,
+    profile: Profile,
+    image: &[u8],
+    cert: &Certificate,
+    seed: u32,
+    count: u64,
+) -> io::Result<()> {
     let mut map: Map = [0; WORDS];
     let configuration = Configuration {
         profile: profile,
         entry_cost: entries::entry_cost(cert),
     };
     let p = run_parts(configuration, image, seed, count, &mut map);
-    tell(p, &map);
-    tell_lowest(cert, &map);
-    print_registers(p.state);
+    tell(rt, p, &map)?;
+    tell_lowest(rt, cert, &map)?;
+    print_registers(rt, p.state)
 }
 
 // With the certificate in an open file; one that is refused has no cycles of an entry, so nothing is run.
-fn run_with(fd: i32, profile: Profile, image: &[u8], seed: u32, count: u64) {
+fn run_with(
+    rt: &impl Print,
+    file: &mut impl Read,
+    profile: Profile,
+    image: &[u8],
+    seed: u32,
+    count: u64,
+) -> io::Result<()> {
     let mut cert: Certificate = [0; LONG_CERTIFICATE_LENGTH];
-    match read_pieces(fd, &mut cert) {
-        Text::Read => run_certified(profile, image, &cert, seed, count),
-        Text::Refused(number) => print_refused(number),
+    match read_pieces(file, &mut cert) {
+        Text::Read => run_certified(rt, profile, image, &cert, seed, count),
+        Text::Refused(number) => print_refused(rt, number),
     }
 }
 
-fn run_image(profile: Profile, image: &[u8], seed: u32, count: u64) {
-    let fd = os::open_read(b"cert.hex");
-    if fd < 0 {
-        return run_alone(profile, image, seed, count);
+fn run_image(
+    rt: &(impl Files + Print),
+    profile: Profile,
+    image: &[u8],
+    seed: u32,
+    count: u64,
+) -> io::Result<()> {
+    match reading::open(rt, b"cert.hex") {
+        Ok(mut file) => run_with(rt, &mut file, profile, image, seed, count),
+        Err(_) => run_alone(rt, profile, image, seed, count),
     }
-    run_with(fd, profile, image, seed, count);
-    libc::close(fd);
 }
 
 // Reads the image into a buffer of the part's length, and runs it.
-fn run_in(profile: Profile, image: &mut [u8], seed: u32, count: u64) {
-    match read_image(b"image.hex", image) {
-        Text::Read => run_image(profile, image, seed, count),
-        Text::Refused(number) => print_row(b"image.hex refused by ", number as u64),
+fn run_in(
+    rt: &(impl Files + Print),
+    profile: Profile,
+    image: &mut [u8],
+    seed: u32,
+    count: u64,
+) -> io::Result<()> {
+    match read_image(rt, b"image.hex", image) {
+        Text::Read => run_image(rt, profile, image, seed, count),
+        Text::Refused(number) => print_row(rt, "image.hex refused by", number as u64),
     }
 }
 
-fn run(profile: Profile, seed: u32, count: u64) {
+fn run(rt: &(impl Files + Print), profile: Profile, seed: u32, count: u64) -> io::Result<()> {
     match profile {
-        Profile::Rom4K => run_in(profile, &mut [0xFF; IMAGE_4K], seed, count),
-        Profile::Rom2K => run_in(profile, &mut [0xFF; IMAGE_2K], seed, count),
+        Profile::Rom4K => run_in(rt, profile, &mut [0xFF; IMAGE_4K], seed, count),
+        Profile::Rom2K => run_in(rt, profile, &mut [0xFF; IMAGE_2K], seed, count),
     }
 }
 
 // The part that an argument names.
-#[derive(Drop)]
+#[derive(Clone, Copy)]
 enum Part {
     Named(Profile),
     Unknown,
 }
 
 // The third argument's, 4K if there is none.
-fn named_part() -> Part {
+fn named_part(rt: &impl Env) -> Part {
     let mut text = [0u8; 16];
-    let n = os::arg(3, &mut text);
+    let n = read_argument(rt, 3, &mut text);
     if n == 0 {
         return Part::Named(Profile::Rom4K);
     }
@@ -311,21 +342,25 @@ fn named_part() -> Part {
     }
 }
 
-fn usage() {
-    io::write_all(
-        STDERR_FILENO,
-        b"run_seed SEED RECORDS [4K | 2K], in a folder with image.hex and, for the cycles of an entry and the starts, cert.hex. Seed and records are decimal, at most 4294967295.\n",
-    );
+fn usage(rt: &impl Eprint) -> io::Result<()> {
+    rt.eprintln(
+        "run_seed SEED RECORDS [4K | 2K], in a folder with image.hex and, for the cycles of an entry and the starts, cert.hex. Seed and records are decimal, at most 4294967295.",
+    )
 }
 
-fn main() {
-    let seed = argument(1);
-    let count = argument(2);
+fn run_arguments(rt: &(impl Env + Files + Print + Eprint)) -> io::Result<()> {
+    let seed = argument(rt, 1);
+    let count = argument(rt, 2);
     if (seed == NONE) | (count == NONE) {
-        return usage();
+        return usage(rt);
     }
-    match named_part() {
-        Part::Named(profile) => run(profile, (seed % NONE) as u32, count),
-        Part::Unknown => usage(),
+    match named_part(rt) {
+        Part::Named(profile) => run(rt, profile, (seed % NONE) as u32, count),
+        Part::Unknown => usage(rt),
     }
+}
+
+// The program has no status: where it cannot write, it ends.
+fn main(rt: HostRuntime) {
+    let _ = run_arguments(&rt);
 }

@@ -2,6 +2,7 @@
 // image of FFH, as long as its part has it; a state; records; and what a run over them leaves from an empty map. From the marks that it leaves, and from all marks, it must add none.
 // Images and maps of other lengths come first.
 #![tactic(auto)]
+
 use base::{IMAGE_2K, IMAGE_4K, Profile, RECORD_LENGTH};
 use coverage::{Map, WORDS};
 use machine_states::{
@@ -10,6 +11,9 @@ use machine_states::{
 };
 use map_cases::same_map;
 use semantics::{Configuration, Ran, State};
+use std::io;
+use std::io::Read;
+use std::rt::Files;
 use test_support::{Case, Counts, print, print_number, word_at};
 
 // Where the parts of what a case gives behind its image begin. The last is the count of the records, which follow it.
@@ -44,7 +48,7 @@ type Schedule = [u8; SCHEDULE_LENGTH];
 type Expected = [u8; EXPECTED_LENGTH];
 
 // What of a run agrees with what is expected.
-#[derive(Drop)]
+#[derive(Clone, Copy)]
 struct Agreement {
     number: bool,
     steps: bool,
@@ -83,7 +87,7 @@ fn covered(
 }
 
 // The runs of a case: with no map; and from no marks, from those of the case, and from all.
-#[derive(Drop)]
+#[derive(Clone, Copy)]
 struct Runs {
     plain: Agreement,
     empty: Agreement,
@@ -129,33 +133,34 @@ fn all_agree(r: Runs) -> bool {
 }
 
 // Prints a name unless it holds.
-fn tell_unless(holds: bool, name: &[u8]) {
+fn tell_unless(rt: &impl Print, holds: bool, name: &[u8]) -> io::Result<()> {
     if !holds {
-        print(name);
+        print(rt, name)?;
     }
+    Ok(())
 }
 
-fn tell_run(name: &[u8], a: Agreement) {
-    tell_unless(agrees(a), name);
-    tell_unless(a.number, b" number");
-    tell_unless(a.steps, b" steps");
-    tell_unless(a.state, b" state");
-    tell_unless(a.map, b" map");
+fn tell_run(rt: &impl Print, name: &[u8], a: Agreement) -> io::Result<()> {
+    tell_unless(rt, agrees(a), name)?;
+    tell_unless(rt, a.number, b" number")?;
+    tell_unless(rt, a.steps, b" steps")?;
+    tell_unless(rt, a.state, b" state")?;
+    tell_unless(rt, a.map, b" map")
 }
 
-fn tell(whole: bool, supported: bool, runs: Runs) {
+fn tell(rt: &impl Print, whole: bool, supported: bool, runs: Runs) -> io::Result<()> {
     let plain = runs.plain;
     let empty = runs.empty;
     let again = runs.again;
     let full = runs.full;
-    print(b" differs");
-    tell_unless(whole, b"; not whole");
-    tell_unless(supported, b"; not supported");
-    tell_run(b"; without a map:", plain);
-    tell_run(b"; from no marks:", empty);
-    tell_run(b"; from its marks:", again);
-    tell_run(b"; from all marks:", full);
-    print(b"\n");
+    print(rt, b" differs")?;
+    tell_unless(rt, whole, b"; not whole")?;
+    tell_unless(rt, supported, b"; not supported")?;
+    tell_run(rt, b"; without a map:", plain)?;
+    tell_run(rt, b"; from no marks:", empty)?;
+    tell_run(rt, b"; from its marks:", again)?;
+    tell_run(rt, b"; from all marks:", full)?;
+    print(rt, b"\n")
 }
 
 // Whether the machine has the part and the states of a case.
@@ -168,12 +173,12 @@ fn is_supported(configuration: &ConfigurationBytes, given: &Given, expected: &Ex
 }
 
 // Reads the next records of a file, so many; whether the file has them all, and the slice has room for them.
-fn read_records(fd: i32, count: u16, schedule: &mut [u8]) -> bool {
+fn read_records(file: &mut impl Read, count: u16, schedule: &mut [u8]) -> bool {
     let length = count as usize * RECORD_LENGTH;
     if schedule.len() < length {
         return false;
     }
-    io::read_full(fd, &mut schedule[0..length]) == length
+    test_support::read_full(file, &mut schedule[0..length]) == length
 }
 
 // The first records of a schedule, so many.
@@ -184,18 +189,23 @@ fn first_records(schedule: &Schedule, count: u16) -> &[u8] {
 }
 
 // Reads the rest of a case, and compares; one that is cut off differs.
-fn compare(fd: i32, configuration: &ConfigurationBytes, counts: Counts) -> Case {
+fn compare(
+    rt: &impl Print,
+    file: &mut impl Read,
+    configuration: &ConfigurationBytes,
+    counts: Counts,
+) -> io::Result<Case> {
     let mut image: Image = [255; IMAGE_4K];
     let mut given: Given = [0; GIVEN_LENGTH];
     let mut schedule: Schedule = [0; SCHEDULE_LENGTH];
     let mut expected: Expected = [0; EXPECTED_LENGTH];
     let mut marks: Map = [0; WORDS];
-    let edited = test_support::read_edits(fd, &mut image);
-    let started = io::read_full(fd, &mut given) == GIVEN_LENGTH;
+    let edited = test_support::read_edits(file, &mut image);
+    let started = test_support::read_full(file, &mut given) == GIVEN_LENGTH;
     let count = word_at(&given, RECORDS);
-    let scheduled = read_records(fd, count, &mut schedule);
-    let ended = io::read_full(fd, &mut expected) == EXPECTED_LENGTH;
-    let marked = map_cases::read_marks(fd, word_at(&expected, MARKED), &mut marks);
+    let scheduled = read_records(file, count, &mut schedule);
+    let ended = test_support::read_full(file, &mut expected) == EXPECTED_LENGTH;
+    let marked = map_cases::read_marks(file, word_at(&expected, MARKED), &mut marks);
     let whole = edited & started & scheduled & ended & marked.whole & marked.distinct;
     let supported = is_supported(configuration, &given, &expected);
     let records = first_records(&schedule, count);
@@ -209,33 +219,33 @@ fn compare(fd: i32, configuration: &ConfigurationBytes, counts: Counts) -> Case 
         &marks,
     );
     if whole & supported & all_agree(runs) {
-        return Case::Same;
+        return Ok(Case::Same);
     }
-    if test_support::tells(counts) {
-        tell(whole, supported, runs);
+    if test_support::tells(rt, counts)? {
+        tell(rt, whole, supported, runs)?;
     }
-    Case::Differs
+    Ok(Case::Differs)
 }
 
-fn run_case(fd: i32, counts: Counts) -> Case {
+fn run_case(rt: &impl Print, file: &mut impl Read, counts: Counts) -> io::Result<Case> {
     let mut configuration: ConfigurationBytes = [0; CONFIGURATION_LENGTH];
-    if io::read_full(fd, &mut configuration) == 0 {
-        return Case::End;
+    if test_support::read_full(file, &mut configuration) == 0 {
+        return Ok(Case::End);
     }
-    compare(fd, &configuration, counts)
+    compare(rt, file, &configuration, counts)
 }
 
-fn run_cases() {
-    let fd = test_support::open(b"runs.bin");
+fn run_cases(rt: &(impl Files + Print + Eprint)) -> io::Result<()> {
+    let mut file = test_support::open(rt, b"runs.bin")?;
     let mut counts = test_support::start();
     while counts.left > 0 {
-        counts = test_support::counted(counts, run_case(fd, counts));
+        counts = test_support::counted(counts, run_case(rt, &mut file, counts)?);
     }
-    test_support::finish(fd, counts);
+    test_support::finish(rt, file, counts)
 }
 
 // Prints the number, the steps and the word of 0100H that one NOP leaves with a map of so many words, at most one too many.
-fn try_words(words: usize) {
+fn try_words(rt: &impl Print, words: usize) -> io::Result<()> {
     let image: Image = [255; IMAGE_4K];
     let mut map = [0u64; WORDS + 1];
     let state = machine::reset();
@@ -251,19 +261,16 @@ fn try_words(words: usize) {
             &[0; RECORD_LENGTH],
             &mut map[0..words],
         );
-        print_number(words as u64);
-        print(b" words: ");
-        print_number(ran.stop as u64);
-        print(b", steps ");
-        print_number(ran.steps as u64);
-        print(b", marks ");
-        print_number(map[4]);
-        print(b"\n");
+        println!(rt;
+            "{words} words: {}, steps {}, marks {}",
+            ran.stop, ran.steps, map[4]
+        )?;
     }
+    Ok(())
 }
 
 // Prints the numbers of a step and of a run on a part with an image of so many bytes, at most 4096.
-fn try_image(name: &[u8], profile: Profile, length: usize) {
+fn try_image(rt: &impl Print, name: &[u8], profile: Profile, length: usize) -> io::Result<()> {
     let image: Image = [255; IMAGE_4K];
     let configuration = Configuration {
         profile: profile,
@@ -274,30 +281,28 @@ fn try_image(name: &[u8], profile: Profile, length: usize) {
         let part = &image[0..length];
         let stepped = machine::step(configuration, part, machine::reset(), &rec);
         let ran = machine::run(configuration, part, machine::reset(), &[]);
-        print(name);
-        print(b" part, image of ");
-        print_number(length as u64);
-        print(b": step ");
-        print_number(stepped.stop as u64);
-        print(b", empty run ");
-        print_number(ran.stop as u64);
-        print(b"\n");
+        print(rt, name)?;
+        println!(rt;
+            " part, image of {length}: step {}, empty run {}",
+            stepped.stop, ran.stop
+        )?;
     }
+    Ok(())
 }
 
-fn try_images() {
-    try_image(b"4K", Profile::Rom4K, IMAGE_4K);
-    try_image(b"4K", Profile::Rom4K, IMAGE_2K);
-    try_image(b"2K", Profile::Rom2K, IMAGE_2K);
-    try_image(b"2K", Profile::Rom2K, IMAGE_4K);
-    try_image(b"2K", Profile::Rom2K, IMAGE_2K - 1);
+fn try_images(rt: &impl Print) -> io::Result<()> {
+    try_image(rt, b"4K", Profile::Rom4K, IMAGE_4K)?;
+    try_image(rt, b"4K", Profile::Rom4K, IMAGE_2K)?;
+    try_image(rt, b"2K", Profile::Rom2K, IMAGE_2K)?;
+    try_image(rt, b"2K", Profile::Rom2K, IMAGE_4K)?;
+    try_image(rt, b"2K", Profile::Rom2K, IMAGE_2K - 1)
 }
 
-fn main() {
-    try_images();
-    try_words(0);
-    try_words(WORDS - 1);
-    try_words(WORDS);
-    try_words(WORDS + 1);
-    run_cases();
+fn main(rt: HostRuntime) -> io::Result<()> {
+    try_images(&rt)?;
+    try_words(&rt, 0)?;
+    try_words(&rt, WORDS - 1)?;
+    try_words(&rt, WORDS)?;
+    try_words(&rt, WORDS + 1)?;
+    run_cases(&rt)
 }

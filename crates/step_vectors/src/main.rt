@@ -1,11 +1,14 @@
 // Compares `machine::step` with the cases of the file `steps.bin`. ROM, as long as the case's part has it, is FFH where a case gives no byte.
 #![tactic(auto)]
+
 use base::{IMAGE_4K, RECORD_LENGTH};
 use machine_states::{
     CONFIGURATION_LENGTH, STATE_LENGTH, configuration_of, image_for, is_configuration,
     is_supported_state, same_state, state_of,
 };
 use semantics::Stepped;
+use std::io;
+use std::io::Read;
 use test_support::{Case, Counts, put};
 
 // Where the parts of a case begin. The vector is ROM bytes 0000H and 0001H; the window, those at the program counter, wins over it.
@@ -66,28 +69,26 @@ fn wide(x: u8) -> u64 {
 }
 
 // The next case of the file; one that is cut off differs.
-fn run_case(fd: i32, counts: Counts) -> Case {
+fn run_case(rt: &impl Print, file: &mut impl Read, counts: Counts) -> io::Result<Case> {
     let mut case = [0u8; CASE_LENGTH];
-    let n = io::read_full(fd, &mut case);
+    let n = test_support::read_full(file, &mut case);
     if n == 0 {
-        return Case::End;
+        return Ok(Case::End);
     }
     if (n == CASE_LENGTH) & agrees(&case) {
-        return Case::Same;
+        return Ok(Case::Same);
     }
-    if test_support::tells(counts) {
-        test_support::print(b" differs, first byte ");
-        test_support::print_hex(wide(case[WINDOW]), 2);
-        test_support::print(b"\n");
+    if test_support::tells(rt, counts)? {
+        println!(rt; " differs, first byte {:02x}", wide(case[WINDOW]))?;
     }
-    Case::Differs
+    Ok(Case::Differs)
 }
 
-fn main() {
-    let fd = test_support::open(b"steps.bin");
+fn main(rt: HostRuntime) -> io::Result<()> {
+    let mut file = test_support::open(&rt, b"steps.bin")?;
     let mut counts = test_support::start();
     while counts.left > 0 {
-        counts = test_support::counted(counts, run_case(fd, counts));
+        counts = test_support::counted(counts, run_case(&rt, &mut file, counts)?);
     }
-    test_support::finish(fd, counts);
+    test_support::finish(&rt, file, counts)
 }

@@ -1,7 +1,8 @@
 // What the test programs and the benchmarks share: bytes into a slice and out of it, hexadecimal and decimal digits, lines, printing, the cases of a vector file, and
 // the arguments of a benchmark. In a vector file numbers are high byte first, and cases follow one another up to the file's end.
 #![tactic(auto)]
-ghost use Rattle.std.specs.Prelude.{◌≡◌, ◌+◌, ◌-◌, ◌*◌, ◌%◌, ◌≤◌, slice_set};
+
+ghost use Rattle.std.specs.Prelude.{◌≡◌, ◌+◌, ◌-◌, ◌*◌, ◌%◌, ◌≤◌, length, slice_set};
 ghost use Rattle.std.proofs.lemmas.List.Edits.{sets};
 ghost use Rattle.test_support.specs.Arguments.{with_digit, number_of, rows_of};
 ghost use Rattle.test_support.specs.Numbers.{hex_value, word_at, long_at};
@@ -9,7 +10,9 @@ ghost use Rattle.test_support.specs.Edits.{Edited};
 ghost use Rattle.test_support.specs.Counts.{start_of, counted_of};
 
 use base::byte_at;
-use libc::STDOUT_FILENO;
+use std::io;
+use std::io::{Eprint, Read};
+use std::rt::Files;
 
 // How many differences are printed.
 const PRINTED: u64 = 5;
@@ -99,8 +102,8 @@ pub fn long_at(s: &[u8], at: usize) -> u32
     long(word_at(s, at), word_at(s, at + 2))
 }
 
-pub fn print(text: &[u8]) {
-    io::write_all(STDOUT_FILENO, text);
+pub fn print(rt: &impl Print, text: &[u8]) -> io::Result<()> {
+    rt.write_all(text)
 }
 
 // The next dot from a place on, or the end.
@@ -116,46 +119,76 @@ fn end_of(text: &[u8], from: usize) -> usize {
 }
 
 // Prints what stands from a place on up to a dot.
-pub fn print_field(text: &[u8], at: usize) {
+pub fn print_field(rt: &impl Print, text: &[u8], at: usize) -> io::Result<()> {
     let end = end_of(text, at);
     if end <= text.len() {
         if at <= end {
-            print(&text[at..end]);
+            print(rt, &text[at..end])?;
+        }
+    }
+    Ok(())
+}
+
+// In decimal.
+pub fn print_number(rt: &impl Print, n: u64) -> io::Result<()> {
+    print!(rt; "{n}")
+}
+
+// In hexadecimal, with this many digits.
+pub fn print_hex(rt: &impl Print, n: u64, digits: usize) -> io::Result<()> {
+    print!(rt; "{n:0digits$x}")
+}
+
+// A vector file; one that could not be opened has no bytes.
+#[derive(Drop)]
+pub struct VectorFile<F> {
+    file: Option<F>,
+}
+
+impl<F: Read> Read for VectorFile<F> {
+    fn read(&mut self, buffer: &mut [u8]) -> io::Result<usize> {
+        match &mut self.file {
+            Some(file) => file.read(buffer),
+            None => Ok(0),
         }
     }
 }
 
-// In decimal.
-pub fn print_number(n: u64) {
-    io::print_decimal(STDOUT_FILENO, n);
-}
-
-// In hexadecimal, with this many digits.
-pub fn print_hex(n: u64, digits: usize) {
-    io::print_hex(STDOUT_FILENO, n, digits);
-}
-
 // Opens a vector file. One that cannot be opened is told of, and has no cases.
-pub fn open(path: &[u8]) -> i32 {
-    let fd = os::open_read(path);
-    if fd < 0 {
-        os::fail(path);
+pub fn open<R: Files + Eprint>(rt: &R, path: &[u8]) -> io::Result<VectorFile<R::File>> {
+    match reading::open(rt, path) {
+        Ok(file) => Ok(VectorFile { file: Some(file) }),
+        Err(error) => {
+            tell_unopened(rt, path, error)?;
+            Ok(VectorFile { file: None })
+        }
     }
-    fd
+}
+
+fn tell_unopened(rt: &impl Eprint, path: &[u8], error: io::Error) -> io::Result<()> {
+    let name = path.escape_ascii();
+    eprintln!(rt; "{name}: {error}")
+}
+
+// Reads into a buffer up to its end or the file's, and answers how many bytes it read.
+pub fn read_full(file: &mut impl Read, buffer: &mut [u8]) -> usize
+    ensures { result ≤ length buffer.new }
+{
+    reading::read_full(file, buffer)
 }
 
 // The next byte of a file, 0 at its end.
-pub fn read_byte(fd: i32) -> u8 {
+pub fn read_byte(file: &mut impl Read) -> u8 {
     let mut one = [0u8; 1];
-    io::read_full(fd, &mut one);
+    read_full(file, &mut one);
     one[0]
 }
 
 // Reads the next line of a text, without its LF, up to the file's end or the slice's, and answers its length.
-pub fn read_line(fd: i32, line: &mut [u8]) -> usize {
+pub fn read_line(file: &mut impl Read, line: &mut [u8]) -> usize {
     let mut n: usize = 0;
     while n < line.len() {
-        let b = read_byte(fd);
+        let b = read_byte(file);
         if (b == 10) | (b == 0) {
             return n;
         }
@@ -166,31 +199,31 @@ pub fn read_line(fd: i32, line: &mut [u8]) -> usize {
 }
 
 // Makes the next edit of a file, address 2 and byte 1; whether the file has it all.
-fn read_edit(fd: i32, bytes: &mut [u8]) -> bool
+fn read_edit(file: &mut impl Read, bytes: &mut [u8]) -> bool
     ensures { Edited bytes.old bytes.new }
 {
     let mut three = [0u8; 3];
-    let n = io::read_full(fd, &mut three);
+    let n = read_full(file, &mut three);
     store(bytes, word(three[0], three[1]) as usize, three[2]);
     n == 3
 }
 
 // Makes the next edits of a file, count 2 and that many edits; whether the file has them all.
-pub fn read_edits(fd: i32, bytes: &mut [u8]) -> bool
+pub fn read_edits(file: &mut impl Read, bytes: &mut [u8]) -> bool
     ensures { Edited bytes.old bytes.new }
 {
     let mut two = [0u8; 2];
-    let mut whole = io::read_full(fd, &mut two) == 2;
+    let mut whole = read_full(file, &mut two) == 2;
     let mut left = word(two[0], two[1]);
     while left > 0 {
-        whole = read_edit(fd, bytes) & whole;
+        whole = read_edit(file, bytes) & whole;
         left -= 1;
     }
     whole
 }
 
 // A case of a file: alike, different, or none left.
-#[derive(Drop)]
+#[derive(Clone, Copy)]
 pub enum Case {
     Same,
     Differs,
@@ -198,7 +231,7 @@ pub enum Case {
 }
 
 // How many cases were compared, how many of them differ, and how many more may come, 0 at the file's end.
-#[derive(Drop)]
+#[derive(Clone, Copy)]
 pub struct Counts {
     pub compared: u64,
     pub differ: u64,
@@ -250,27 +283,23 @@ pub fn counted(c: Counts, case: Case) -> Counts
 }
 
 // Whether a case that differs is told of: the first few are. The line begins with its number.
-pub fn tells(c: Counts) -> bool {
+pub fn tells(rt: &impl Print, c: Counts) -> io::Result<bool> {
     if c.differ >= PRINTED {
-        return false;
+        return Ok(false);
     }
-    print(b"case ");
-    print_number(c.compared);
-    true
+    print!(rt; "case {}", c.compared)?;
+    Ok(true)
 }
 
 // The last line of a test program.
-pub fn print_counts(compared: u64, differ: u64) {
-    print_number(compared);
-    print(b" compared, ");
-    print_number(differ);
-    print(b" differ\n");
+pub fn print_counts(rt: &impl Print, compared: u64, differ: u64) -> io::Result<()> {
+    println!(rt; "{compared} compared, {differ} differ")
 }
 
 // Closes a vector file, and prints the last line.
-pub fn finish(fd: i32, c: Counts) {
-    libc::close(fd);
-    print_counts(c.compared, c.differ);
+pub fn finish<F: Drop>(rt: &impl Print, file: VectorFile<F>, c: Counts) -> io::Result<()> {
+    drop(file);
+    print_counts(rt, c.compared, c.differ)
 }
 
 // A number with one more decimal digit behind it, of ten digits at most.
@@ -294,7 +323,7 @@ pub fn number(text: &[u8]) -> u64
 }
 
 // The rows from the first to the last.
-#[derive(Drop)]
+#[derive(Clone, Copy)]
 pub struct Rows {
     pub first: u64,
     pub last: u64,

@@ -1,8 +1,12 @@
 // Converts old HEX lines to upper case, worked examples and the cases of the file upper.bin, and prints what differs.
 #![tactic(auto)]
+
 use base::IMAGE_4K;
 use hex_line::Line;
 use hex_upper::Upper;
+use std::io;
+use std::io::Read;
+use std::rt::Files;
 use test_support::{Case, Counts, print, print_number};
 
 // The number of an answer, 0 where the line was converted.
@@ -22,76 +26,77 @@ fn reader_number(line: &[u8]) -> u8 {
 }
 
 // Prints the reader's number of a line, that of the call, the reader's of the line behind the call, and this line.
-fn convert(line: &mut [u8]) {
-    print_number(reader_number(line) as u64);
-    print(b" ");
-    print_number(upper_number(hex_upper::upper_line(line)) as u64);
-    print(b" ");
-    print_number(reader_number(line) as u64);
-    print(b" ");
-    print(line);
-    print(b"\n");
+fn convert(rt: &impl Print, line: &mut [u8]) -> io::Result<()> {
+    print!(rt;
+        "{} {} {} ",
+        reader_number(line),
+        upper_number(hex_upper::upper_line(line)),
+        reader_number(line)
+    )?;
+    print(rt, line)?;
+    print(rt, b"\n")
 }
 
-fn example(text: &[u8]) {
-    let mut line = io::large_buffer();
+fn example(rt: &impl Print, text: &[u8]) -> io::Result<()> {
+    let mut line = [0u8; 65536];
     test_support::put(&mut line, 0, text);
     if text.len() <= line.len() {
-        convert(&mut line[..text.len()]);
+        convert(rt, &mut line[..text.len()])?;
     }
+    Ok(())
 }
 
 // Reads the rest of a case whose line has this length, and compares; one that is cut off differs.
-fn compare(fd: i32, line: &mut [u8], expected: &mut [u8], length: usize) -> bool {
+fn compare(file: &mut impl Read, line: &mut [u8], expected: &mut [u8], length: usize) -> bool {
     if line.len() < length {
         return false;
     }
     if expected.len() < length {
         return false;
     }
-    let got = io::read_full(fd, &mut line[..length]);
-    let number = test_support::read_byte(fd);
-    let left = io::read_full(fd, &mut expected[..length]);
+    let got = test_support::read_full(file, &mut line[..length]);
+    let number = test_support::read_byte(file);
+    let left = test_support::read_full(file, &mut expected[..length]);
     let answer = upper_number(hex_upper::upper_line(&mut line[..length]));
-    let same = check::same(&line[..length], &expected[..length]);
+    let same = line[..length] == expected[..length];
     same & (answer == number) & (got == length) & (left == length)
 }
 
-fn run_case(fd: i32, counts: Counts) -> Case {
+fn run_case(rt: &impl Print, file: &mut impl Read, counts: Counts) -> io::Result<Case> {
     let mut two = [0u8; 2];
-    if io::read_full(fd, &mut two) == 0 {
-        return Case::End;
+    if test_support::read_full(file, &mut two) == 0 {
+        return Ok(Case::End);
     }
-    let mut line = io::large_buffer();
-    let mut expected = io::large_buffer();
+    let mut line = [0u8; 65536];
+    let mut expected = [0u8; 65536];
     let length = test_support::word(two[0], two[1]) as usize;
-    if compare(fd, &mut line, &mut expected, length) {
-        return Case::Same;
+    if compare(file, &mut line, &mut expected, length) {
+        return Ok(Case::Same);
     }
-    if test_support::tells(counts) {
-        print(b" differs\n");
+    if test_support::tells(rt, counts)? {
+        print(rt, b" differs\n")?;
     }
-    Case::Differs
+    Ok(Case::Differs)
 }
 
-fn run_cases() {
-    let fd = test_support::open(b"upper.bin");
+fn run_cases(rt: &(impl Files + Print + Eprint)) -> io::Result<()> {
+    let mut file = test_support::open(rt, b"upper.bin")?;
     let mut counts = test_support::start();
     while counts.left > 0 {
-        counts = test_support::counted(counts, run_case(fd, counts));
+        counts = test_support::counted(counts, run_case(rt, &mut file, counts)?);
     }
-    test_support::finish(fd, counts);
+    test_support::finish(rt, file, counts)
 }
 
-fn main() {
-    example(b":00000001ff");
-    example(b":020100008fFf6f");
-    example(b":020100008FFF6F");
-    example(b":02fff0008fff81"); // past the end
-    example(b":020100008fff6"); // cut off
-    example(b":020100008fff6fg");
-    example(b":020100008fff6e"); // sum
-    example(b":020100028fff6d"); // type
-    example(b":00000001fe"); // not the end line
-    run_cases();
+fn main(rt: HostRuntime) -> io::Result<()> {
+    example(&rt, b":00000001ff")?;
+    example(&rt, b":020100008fFf6f")?;
+    example(&rt, b":020100008FFF6F")?;
+    example(&rt, b":02fff0008fff81")?; // past the end
+    example(&rt, b":020100008fff6")?; // cut off
+    example(&rt, b":020100008fff6fg")?;
+    example(&rt, b":020100008fff6e")?; // sum
+    example(&rt, b":020100028fff6d")?; // type
+    example(&rt, b":00000001fe")?; // not the end line
+    run_cases(&rt)
 }
