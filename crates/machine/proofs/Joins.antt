@@ -1,12 +1,6 @@
 -- Records of a schedule: what the step of one says of the run.
 -- Assumes nothing.
-use mathlib.Core.Path.{◌≡◌, ◌∙◌, sym, ap}
-use mathlib.Core.Bool.{true}
-use mathlib.Core.List.{List}
-use Prim.Native.Nat.{ℕ, suc, ◌+◌, ◌-◌, ◌*◌, ◌/◌, ◌<◌}
-use native.Mathlib.Omega.{arith}
-use borrow.Author.Tests.{eq-eqb, ne_eqb}
-use lib.ListN.{length, take, drop, length-take, length-drop}
+use Rattle.std.proofs.Common.{◌≡◌, ◌∙◌, sym, ap, Bool, true, List, ℕ, suc, ◌+◌, ◌-◌, ◌*◌, ◌/◌, ◌<◌, arith, eq-eqb, ne_eqb, length, take, drop, length-take, length-drop}
 use Rattle.base.specs.Lengths.{record_length}
 use Rattle.semantics.specs.Setup.{Setup}
 use Rattle.semantics.specs.declared.State.{State}
@@ -26,13 +20,21 @@ step_right K image s rec h g = rw (h, g)
 pub part_length : (i : ℕ) → i * record_length + record_length - i * record_length ≡ record_length
 part_length i = omega arith
 
-module _ (n i : ℕ) (K : Setup) (image schedule : List ℕ) (s : State) (r : Stepped) (valid : valid_machine K image ≡ true)
+module _ (n i : ℕ) (K : Setup) (image schedule : List ℕ) (s : State) (r : Stepped) (rec : List ℕ) (valid : valid_machine K image ≡ true)
     (count : n ≡ length schedule / record_length) (h : i < n)
-    (e : r ≡ settled s (acted_of K image s (take (i * record_length + record_length - i * record_length) (drop (i * record_length) schedule)))) where
+    (w : rec ≡ take (i * record_length + record_length - i * record_length) (drop (i * record_length) schedule))
+    (e : r ≡ settled s (acted_of K image s rec)) where
+  this_record : rec ≡ record_at schedule i
+  this_record = rw (part_length i) at w
+
   this_step : r ≡ step_of K image s (record_at schedule i)
   this_step =
-      let w : length (record_at schedule i) ≡ record_length = simp (length-take, length-drop) (omega arith) in
-      rw (part_length i) at e ∙ sym (step_right K image s (record_at schedule i) valid w)
+      let g : length (record_at schedule i) ≡ record_length = simp (length-take, length-drop) (omega arith) in
+      rw this_record at e ∙ sym (step_right K image s (record_at schedule i) valid g)
+
+  -- it completes an instruction if the step of the record does
+  pub retires : (b : Bool) → b ≡ (acted_of K image s rec).retired → b ≡ (acted_of K image s (record_at schedule i)).retired
+  retires b q = rw this_record at q
 
   -- it leads to the state behind one record more
   pub comes_to : (start : State) → s ≡ state_behind i K image schedule 0 start → r.state ≡ state_behind (i + 1) K image schedule 0 start

@@ -1,5 +1,6 @@
 // The machine: reset, one step under a schedule record, and a run over a schedule, with or without a coverage map.
 #![tactic(auto)]
+
 ghost use Rattle.std.specs.Prelude.{◌≡◌, ◌/◌, length, true};
 ghost use Rattle.semantics.specs.Reset.{reset_state, IsReset};
 ghost use Rattle.base.specs.Lengths.{record_length};
@@ -17,6 +18,7 @@ use entry::Core;
 use semantics::{Configuration, Mode, Ran, State, Stepped};
 
 // The state at reset. What a reset leaves open (RAM, SP, the kept bits of FLAGS, F8H and F9H) is 0. It is one of the states that demand 3 speaks of.
+#[tactic(auto, using(semantics::specs::ResetLaws::reset_is_reset), unfolding(semantics::specs::Reset::reset_state))]
 pub fn reset() -> State
     ensures value { result ≡ reset_state }
     ensures valid { IsReset result }
@@ -47,6 +49,7 @@ fn valid_machine(configuration: Configuration, image: &[u8]) -> bool
 
 // One step of a state on an image of the part's length in a configuration, under a record (`RECORD_LENGTH`): the next state and 0, or the state
 // before it and the number of the refusal.
+#[tactic(auto, using(crate::proofs::Joins::step_right), unfolding(semantics::specs::Step::step_of))]
 pub fn step(configuration: Configuration, image: &[u8], state: State, rec: &[u8]) -> Stepped
     ensures { result ≡ step_of (setup_of configuration) image.now state rec.now }
 {
@@ -128,6 +131,7 @@ fn run_records(
 }
 
 // A run that marks; 7 for a configuration above its limit, an image of another length, and a schedule that is not whole records.
+#[tactic(auto, unfolding(semantics::specs::Run::run_of))]
 fn run_marking(
     configuration: Configuration,
     image: &[u8],
@@ -167,6 +171,7 @@ pub fn run(configuration: Configuration, image: &[u8], state: State, schedule: &
 
 // The same run with a lent map (`coverage::WORDS`), which then has its old marks and those of the instructions that the run completed, where they
 // began. A map of another length is refused by 7.
+#[tactic(auto, unfolding(crate::specs::Reached::covered_run))]
 pub fn run_covered(
     configuration: Configuration,
     image: &[u8],

@@ -1,6 +1,7 @@
 // One step under a schedule record, with its registers in place, in two halves: it acts, and then it settles. The crate `machine` makes steps of
 // whole states and runs of it.
 #![tactic(auto)]
+
 ghost use Rattle.std.specs.Prelude.{◌≡◌, ℕ, List};
 ghost use Rattle.isa.specs.Answer.{decoded};
 ghost use Rattle.base.specs.Choice.{pick};
@@ -16,6 +17,7 @@ use isa::Decoded;
 use semantics::{Configuration, Mode};
 
 // The instruction that was decoded, on the registers after the requests.
+#[tactic(auto, unfolding(semantics::specs::Step::after_decode))]
 fn after_decode(d: Decoded, image: &[u8], s: Core, regs: &mut Registers, rec: &Inputs) -> Ended
     ensures { (saved : List ℕ) → rebuilt saved regs.new result ≡ after_decode (decoded d) image.now (state_with saved s) regs.old rec.now }
 {
@@ -41,6 +43,7 @@ fn after_decode(d: Decoded, image: &[u8], s: Core, regs: &mut Registers, rec: &I
 }
 
 // One instruction.
+#[tactic(auto, unfolding(semantics::specs::Step::instruction_act))]
 fn instruction(image: &[u8], s: Core, regs: &mut Registers, rec: &Inputs) -> Ended
     ensures { (saved : List ℕ) → rebuilt saved regs.new result ≡ instruction_act image.now (state_with saved s) regs.old rec.now }
 {
@@ -52,6 +55,7 @@ fn instruction(image: &[u8], s: Core, regs: &mut Registers, rec: &Inputs) -> End
 const IDLE_CYCLES: u8 = 4;
 
 // The act of a machine for which no entry is due.
+#[tactic(auto, unfolding(semantics::specs::Step::mode_act))]
 fn mode_act(mode: Mode, image: &[u8], s: Core, regs: &mut Registers, rec: &Inputs) -> Ended
     ensures { (saved : List ℕ) → rebuilt saved regs.new result ≡ mode_act mode image.now (state_with saved s) regs.old rec.now }
 {
@@ -63,6 +67,7 @@ fn mode_act(mode: Mode, image: &[u8], s: Core, regs: &mut Registers, rec: &Input
 }
 
 // What follows the requests.
+#[tactic(auto, using(entry::specs::InPlaceLaws::finishes), unfolding(semantics::specs::Step::act_after_requests))]
 fn after_requests(
     due: bool,
     configuration: Configuration,
@@ -91,6 +96,7 @@ fn put_back(regs: &mut Registers, before: Registers, done: bool)
 }
 
 // The first half: what the requests, the entry, waiting or the instruction do.
+#[tactic(auto, unfolding(semantics::specs::Step::acted_of))]
 fn act(
     configuration: Configuration,
     image: &[u8],
@@ -113,6 +119,7 @@ fn act(
 }
 
 // The second half: nothing settles.
+#[tactic(auto, unfolding(semantics::specs::Step::settled))]
 fn settle(regs: &mut Registers, a: Ended) -> Ended
     ensures step { (s : State) → stepped regs.new result ≡ settled s (acted regs.old a) }
     ensures retired { result.retired ≡ a.retired }
