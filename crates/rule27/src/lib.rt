@@ -16,7 +16,7 @@ use entries::{Entry, NO_CELL};
 
 // What comes after an instruction: nothing; a callee's bound, and a successor's worst or its bound for the same value of the first claimed cell; a
 // successor's bound for a value one more, or one less.
-#[derive(Drop)]
+#[derive(Clone, Copy)]
 pub enum After {
     Nothing,
     Worst(u16, Entry),
