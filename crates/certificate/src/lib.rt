@@ -3,7 +3,7 @@
 use base::{RegAddr, RomAddr};
 
 // From one byte to another, both included.
-#[derive(Drop)]
+#[derive(Clone, Copy)]
 pub struct Range {
     pub least: u8,
     pub greatest: u8,
@@ -11,7 +11,7 @@ pub struct Range {
 
 // What is known of a byte that an instruction stores: a number, one more or one less than the cell held, a range, what a register held, or
 // nothing.
-#[derive(Drop)]
+#[derive(Clone, Copy)]
 pub enum NewValue {
     Number(u8),
     OneMore,
@@ -23,7 +23,7 @@ pub enum NewValue {
 
 // The cells that an instruction may store to: none; a register; where a pointer, plus an offset, points; a register, a byte of a range, and then
 // both halves of a pair.
-#[derive(Drop)]
+#[derive(Clone, Copy)]
 pub enum Write {
     Nothing,
     Register(RegAddr, NewValue),
@@ -32,7 +32,7 @@ pub enum Write {
 }
 
 // An operand that is only read: none; a register; where a pointer, plus an offset, points.
-#[derive(Drop)]
+#[derive(Clone, Copy)]
 pub enum Access {
     Nothing,
     Register(RegAddr),
@@ -40,7 +40,7 @@ pub enum Access {
 }
 
 // The program memory that LDC may read: none; one address; what a pair reaches, with an offset to add and one to take off.
-#[derive(Drop)]
+#[derive(Clone, Copy)]
 pub enum CodeAccess {
     Nothing,
     Direct(RomAddr),
@@ -48,7 +48,7 @@ pub enum CodeAccess {
 }
 
 // The flags after an instruction: as before, changed, or those of `CP cell,#k`.
-#[derive(Drop)]
+#[derive(Clone, Copy)]
 pub enum FlagEffect {
     Kept,
     Changed,
@@ -56,7 +56,7 @@ pub enum FlagEffect {
 }
 
 // What an instruction does to SP: nothing, one byte more or less on the stack, or a number is loaded.
-#[derive(Drop)]
+#[derive(Clone, Copy)]
 pub enum StackEffect {
     Same,
     Push,
@@ -65,7 +65,7 @@ pub enum StackEffect {
 }
 
 // EI, DI and IDLE.
-#[derive(Drop)]
+#[derive(Clone, Copy)]
 pub enum Control {
     Nothing,
     Enable,
@@ -75,7 +75,7 @@ pub enum Control {
 
 // Where control goes: behind the instruction, or to an address if a condition holds (condition 0 never holds, 8 always); a call; a return; or
 // nowhere, where no accepted program has this instruction.
-#[derive(Drop)]
+#[derive(Clone, Copy)]
 pub enum Flow {
     Step(u8, RomAddr),
     Call(RomAddr),
@@ -85,7 +85,7 @@ pub enum Flow {
 }
 
 // All that the checker knows of an instruction but its cost.
-#[derive(Drop)]
+#[derive(Clone, Copy)]
 pub struct Summary {
     pub write: Write,
     pub first: Access,
@@ -98,7 +98,7 @@ pub struct Summary {
 }
 
 // The checker's answer: accepted; or refused, with the number of the broken rule and its address. A slice of wrong length is 7 at 0000H.
-#[derive(Drop)]
+#[derive(Clone, Copy)]
 pub enum Verdict {
     Accepted,
     Refused(u8, RomAddr),

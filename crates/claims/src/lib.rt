@@ -16,7 +16,7 @@ use certificate::{NewValue, Range, Write};
 use entries::{Entry, NO_CELL};
 
 // An edge of the control flow: its condition, whether it is the one on which the condition holds, and where it goes.
-#[derive(Drop)]
+#[derive(Clone, Copy)]
 pub struct Edge {
     pub condition: u8,
     pub outcome: bool,
@@ -24,7 +24,7 @@ pub struct Edge {
 }
 
 // The values of a cell that are left on an edge: low to high, and where the cell is narrowed those that meet the condition against a number.
-#[derive(Drop)]
+#[derive(Clone, Copy)]
 pub struct Values {
     pub low: u8,
     pub high: u8,
@@ -35,13 +35,14 @@ pub struct Values {
 }
 
 // What a write may leave in a cell.
-#[derive(Drop)]
+#[derive(Clone, Copy)]
 pub enum Change {
     Unchanged,
     Changed(NewValue),
 }
 
 // The range of a cell by an entry: its claim's, else 0 to 255. Of FFH, which marks no claim, it says nothing.
+#[tactic(auto, using(crate::proofs::Laws::low_by), unfolding(crate::proofs::Laws::low_in))]
 pub fn low_in(n: Entry, x: RegAddr) -> u8
     ensures { (C : Certificate) (a : ℕ) → n ≡ entry_of C a → result ≡ Rattle.safety.specs.Rules.low C a x.0 }
 {
@@ -54,6 +55,7 @@ pub fn low_in(n: Entry, x: RegAddr) -> u8
     0
 }
 
+#[tactic(auto, using(crate::proofs::Laws::high_by), unfolding(crate::proofs::Laws::high_in))]
 pub fn high_in(n: Entry, x: RegAddr) -> u8
     ensures { (C : Certificate) (a : ℕ) → n ≡ entry_of C a → result ≡ Rattle.safety.specs.Rules.high C a x.0 }
 {
@@ -67,6 +69,7 @@ pub fn high_in(n: Entry, x: RegAddr) -> u8
 }
 
 // The range of the cell behind p, the low half of a pair; behind FFH stands none, and 0 to 255 counts.
+#[tactic(auto, using(safety::specs::CodeRangeLaws::unclaimed))]
 pub fn second_half_range(n: Entry, p: RegAddr) -> Range
     ensures { (C : Certificate) (a : ℕ) → n ≡ entry_of C a → result ≡ range (Rattle.safety.specs.Rules.low C a (p.0 + 1)) (Rattle.safety.specs.Rules.high C a (p.0 + 1)) }
 {
@@ -83,6 +86,7 @@ pub fn second_half_range(n: Entry, p: RegAddr) -> Range
     }
 }
 
+#[tactic(auto, unfolding(safety::specs::Rules::claimed))]
 pub fn claimed_in(n: Entry, x: RegAddr) -> bool
     ensures { (C : Certificate) (a : ℕ) → n ≡ entry_of C a → result ≡ decide (Rattle.safety.specs.Rules.claimed C a x.0) }
 {
@@ -90,6 +94,7 @@ pub fn claimed_in(n: Entry, x: RegAddr) -> bool
 }
 
 // The cell is compared, and claimed.
+#[tactic(auto, unfolding(safety::specs::Rules::narrowed))]
 fn narrowed(n: Entry, x: RegAddr) -> bool
     ensures { (C : Certificate) (a : ℕ) → n ≡ entry_of C a → result ≡ decide (Rattle.safety.specs.Rules.narrowed C a x.0) }
 {
@@ -97,6 +102,7 @@ fn narrowed(n: Entry, x: RegAddr) -> bool
 }
 
 // Value v, compared with k, meets the condition. C, NC, Z, NZ, ULE and UGT are unsigned; any other condition says nothing.
+#[tactic(auto, using(base::specs::ChoiceLaws::choose_miss), unfolding(safety::specs::Rules::meets))]
 fn meets_holding(cc: u8, v: u8, k: u8) -> bool
     ensures { result ≡ decide (Rattle.safety.specs.Rules.meets cc true v k) }
 {
@@ -112,6 +118,7 @@ fn meets_holding(cc: u8, v: u8, k: u8) -> bool
 }
 
 // Value v, compared with k, meets the opposite of the condition.
+#[tactic(auto, using(base::specs::ChoiceLaws::choose_miss), unfolding(safety::specs::Rules::meets))]
 fn meets_failing(cc: u8, v: u8, k: u8) -> bool
     ensures { result ≡ decide (Rattle.safety.specs.Rules.meets cc false v k) }
 {
@@ -136,6 +143,7 @@ fn meets(cc: u8, outcome: bool, v: u8, k: u8) -> bool
 }
 
 // v is one of the values.
+#[tactic(auto, unfolding(crate::specs::Values::among))]
 pub fn has(s: Values, v: u8) -> bool
     ensures { result ≡ decide (among s v) }
 {
@@ -158,6 +166,7 @@ pub fn values_left(n: Entry, e: Edge, x: RegAddr) -> Values
 }
 
 // No value is left.
+#[tactic(auto, unfolding(crate::specs::Values::among, crate::specs::Values::none_among))]
 fn none_left(s: Values) -> bool
     ensures { result ≡ decide (none_among s) }
 {
@@ -180,6 +189,7 @@ fn stays(s: Values, v: u8, l: u8, h: u8) -> bool
 }
 
 // Every value that is left lies between l and h.
+#[tactic(auto, unfolding(crate::specs::Values::among, crate::specs::Values::all_within))]
 pub fn all_within(s: Values, l: u8, h: u8) -> bool
     ensures { result ≡ decide (all_within s l h) }
 {
@@ -195,6 +205,7 @@ pub fn all_within(s: Values, l: u8, h: u8) -> bool
 }
 
 // Some value of cell x, if it is claimed, is left on an edge from entry n.
+#[tactic(auto, unfolding(crate::specs::Values::feasible_for, crate::specs::Values::none_among))]
 fn feasible_for(n: Entry, e: Edge, x: RegAddr) -> bool
     ensures { (C : Certificate) (a : ℕ) → n ≡ entry_of C a → result ≡ decide (feasible_for C a (edge_of e) x.0) }
 {
@@ -208,6 +219,7 @@ fn feasible_for(n: Entry, e: Edge, x: RegAddr) -> bool
 }
 
 // Some value of the compared and claimed cell is left on an edge from entry n.
+#[tactic(auto, unfolding(safety::specs::Rules::feasible, crate::specs::Values::feasible_for))]
 pub fn feasible(n: Entry, e: Edge) -> bool
     ensures { (C : Certificate) (a : ℕ) → n ≡ entry_of C a → result ≡ decide (Rattle.safety.specs.Rules.feasible C a (edge_of e)) }
 {
@@ -245,6 +257,7 @@ fn pair_change(y: RegAddr, q: Range, p: RegAddr, x: RegAddr) -> Change
 }
 
 // What a write at entry n may leave in cell x.
+#[tactic(auto, using(crate::proofs::Laws::change_pick))]
 pub fn change_of(n: Entry, w: Write, x: RegAddr) -> Change
     ensures { (C : Certificate) (a : ℕ) → n ≡ entry_of C a → change_in result ≡ change_of C a w x.0 }
 {
@@ -277,6 +290,7 @@ fn distance(e: Entry, c: u8) -> u8
 }
 
 // The entry's bound where the first claimed cell holds c.
+#[tactic(auto, using(crate::proofs::Laws::product), unfolding(crate::specs::Bounds::bound_from))]
 pub fn bound_at(e: Entry, c: u8) -> u32
     ensures { result ≡ bound_from e c }
 {
@@ -284,6 +298,7 @@ pub fn bound_at(e: Entry, c: u8) -> u32
 }
 
 // Its greatest value over the claim.
+#[tactic(auto, using(crate::proofs::Laws::product), unfolding(crate::specs::Bounds::worst_from))]
 pub fn worst(e: Entry) -> u32
     ensures { result ≡ worst_from e }
 {

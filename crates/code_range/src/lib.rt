@@ -20,6 +20,7 @@ fn greater(x: u8, y: u8) -> u8
 }
 
 // The range that holds q and the bytes of a row.
+#[tactic(auto, using(crate::proofs::Laws::widened_next), unfolding(safety::specs::CodeRange::widened))]
 fn row_range(row: &[u8], q: Range) -> Range
     ensures { result ≡ widened q row.now }
 {
@@ -40,6 +41,7 @@ fn row_range(row: &[u8], q: Range) -> Range
 }
 
 // The range of the bytes of k rows of n bytes, 256 apart, the first from address t on; past the image stands none.
+#[tactic(auto, using(crate::proofs::Laws::widened_row), unfolding(safety::specs::CodeRange::widened, safety::specs::CodeRange::rows_from))]
 fn rows_range(image: &[u8], k: u16, t: u32, n: u16) -> Range
     ensures { result ≡ widened no_byte (rows_from image.now k t n) }
 {
@@ -77,6 +79,7 @@ fn lowest_address(upper: u8, lower: u8, up: u16, down: u16) -> u32
 }
 
 // The range of what a pair reaches by the claims on both of its halves.
+#[tactic(auto, unfolding(safety::specs::CodeRange::load_range))]
 fn pair_range(image: &[u8], cert: &[u8], a: RomAddr, p: RegAddr, up: u16, down: u16) -> Range
     ensures { result ≡ Rattle.safety.specs.CodeRange.load_range (certificate_of cert.now) image.now a.0 (CodeAccess.Pair p up down) }
 {
@@ -94,6 +97,7 @@ fn pair_range(image: &[u8], cert: &[u8], a: RomAddr, p: RegAddr, up: u16, down: 
 }
 
 // The range of the bytes that the instruction at a can load.
+#[tactic(auto, unfolding(safety::specs::CodeRange::load_range, safety::specs::CodeRange::widened))]
 pub fn load_range(image: &[u8], cert: &[u8], a: RomAddr, c: CodeAccess) -> Range
     ensures { result ≡ Rattle.safety.specs.CodeRange.load_range (certificate_of cert.now) image.now a.0 c }
 {

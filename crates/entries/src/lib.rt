@@ -40,7 +40,7 @@ pub const NO_CELL: u8 = 255;
 pub const UNLOADED: u8 = 255;
 
 // That a cell holds low to high; cell FFH is no claim.
-#[derive(Drop)]
+#[derive(Clone, Copy)]
 pub struct Claim {
     pub cell: RegAddr,
     pub low: u8,
@@ -48,14 +48,14 @@ pub struct Claim {
 }
 
 // That the flags are those of `CP cell,#number`; cell FFH is no compare.
-#[derive(Drop)]
+#[derive(Clone, Copy)]
 pub struct Compare {
     pub cell: RegAddr,
     pub number: u8,
 }
 
 // The entry of a ROM address.
-#[derive(Drop)]
+#[derive(Clone, Copy)]
 pub struct Entry {
     pub routine: u8,
     pub depth: u8,
@@ -68,7 +68,7 @@ pub struct Entry {
 }
 
 // The row of a register.
-#[derive(Drop)]
+#[derive(Clone, Copy)]
 pub struct CellRow {
     pub class: u8,
     pub limit: u8,
@@ -76,7 +76,7 @@ pub struct CellRow {
 }
 
 // The row of a routine.
-#[derive(Drop)]
+#[derive(Clone, Copy)]
 pub struct RoutineRow {
     pub start: RomAddr,
     pub side: u8,
@@ -148,6 +148,7 @@ pub fn row_part(cert: &[u8], n: u8) -> &[u8]
 }
 
 // The fields of an entry's part.
+#[tactic(auto, unfolding(crate::specs::Fields::entry_from))]
 pub fn entry_of(part: &[u8]) -> Entry
     ensures { result ≡ entry_from part.now }
 {
@@ -179,6 +180,7 @@ fn claim_at(e: &[u8], i: usize) -> Claim
 }
 
 // The row of a register, field by field.
+#[tactic(auto, unfolding(certificate::specs::Layout::certificate_of, certificate::specs::Layout::certificate_from))]
 pub fn cell_row(cert: &[u8], x: RegAddr) -> CellRow
     ensures { result ≡ cell_row_of (certificate_of cert.now) x.0 }
 {
@@ -191,6 +193,7 @@ pub fn cell_row(cert: &[u8], x: RegAddr) -> CellRow
 }
 
 // The row of a routine, field by field.
+#[tactic(auto, unfolding(certificate::specs::Layout::certificate_of, certificate::specs::Layout::certificate_from))]
 pub fn routine_row(cert: &[u8], n: u8) -> RoutineRow
     ensures { result ≡ row_of (certificate_of cert.now) n }
 {
@@ -204,12 +207,14 @@ pub fn routine_row(cert: &[u8], n: u8) -> RoutineRow
 }
 
 // The stack is floor to top - 1.
+#[tactic(auto, unfolding(certificate::specs::Layout::certificate_of, certificate::specs::Layout::certificate_from))]
 pub fn stack_floor(cert: &[u8]) -> u8
     ensures { result ≡ (certificate_of cert.now).floor }
 {
     byte_at(cert, FLOOR_AT)
 }
 
+#[tactic(auto, unfolding(certificate::specs::Layout::certificate_of, certificate::specs::Layout::certificate_from))]
 pub fn stack_top(cert: &[u8]) -> u8
     ensures { result ≡ (certificate_of cert.now).top }
 {
@@ -217,6 +222,7 @@ pub fn stack_top(cert: &[u8]) -> u8
 }
 
 // The cycles of an interrupt entry.
+#[tactic(auto, unfolding(certificate::specs::Layout::certificate_of, certificate::specs::Layout::certificate_from))]
 pub fn entry_cost(cert: &[u8]) -> u8
     ensures { result ≡ (certificate_of cert.now).entry_cost }
 {

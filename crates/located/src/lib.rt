@@ -12,7 +12,7 @@ use certificate::Summary;
 use isa::{Decoded, FlagSet, Instruction};
 
 // An instruction's summary, and the address behind it.
-#[derive(Drop)]
+#[derive(Clone, Copy)]
 pub struct Located {
     pub summary: Summary,
     pub next: RomAddr,

@@ -18,6 +18,7 @@ const RAM_END: u8 = 0xD0;
 const TOP_LIMIT: u8 = 0xC0;
 
 // A row is used if it is not all zero.
+#[tactic(auto, unfolding(safety::specs::Rules::used))]
 pub fn used(cert: &[u8], n: u8) -> bool
     ensures { result ≡ decide (Rattle.safety.specs.Rules.used (certificate_of cert.now) n) }
 {
@@ -32,6 +33,7 @@ fn in_stack(cert: &[u8], x: RegAddr) -> bool
 }
 
 // Class at most 3; class and table 0 for stack bytes, D5H, D9H, DFH and unmapped.
+#[tactic(auto, unfolding(safety::specs::Rules::cell_rule))]
 fn cell_rule(cert: &[u8], x: RegAddr) -> bool
     ensures { result ≡ decide (cell_rule (certificate_of cert.now) x.0) }
 {
@@ -43,6 +45,7 @@ fn cell_rule(cert: &[u8], x: RegAddr) -> bool
 }
 
 // A claimed or compared cell is RAM outside the stack, of the side's own class.
+#[tactic(auto, unfolding(safety::specs::Rules::claimable))]
 fn claimable(cert: &[u8], side: u8, x: RegAddr) -> bool
     ensures { (a : ℕ) → side ≡ side_at (certificate_of cert.now) a → result ≡ decide (Rattle.safety.specs.Rules.claimable (certificate_of cert.now) a x.0) }
 {
@@ -51,6 +54,7 @@ fn claimable(cert: &[u8], side: u8, x: RegAddr) -> bool
 }
 
 // Of a claim low is at most high; of an absent one the other bytes are 0.
+#[tactic(auto, unfolding(safety::specs::Rules::claim_rule))]
 fn claim_rule(cert: &[u8], side: u8, k: Claim) -> bool
     ensures { (a : ℕ) → side ≡ side_at (certificate_of cert.now) a → result ≡ decide (claim_rule (certificate_of cert.now) a k.cell.0 k.low k.high) }
 {
@@ -58,6 +62,7 @@ fn claim_rule(cert: &[u8], side: u8, k: Claim) -> bool
     ((k.cell.0 == NO_CELL) | held) & ((k.cell.0 != NO_CELL) | (k.low == 0) & (k.high == 0))
 }
 
+#[tactic(auto, unfolding(safety::specs::Rules::compare_rule))]
 fn compare_rule(cert: &[u8], side: u8, e: Entry) -> bool
     ensures { (a : ℕ) → side ≡ side_at (certificate_of cert.now) a → e ≡ entry_of (certificate_of cert.now) a
         → result ≡ decide (compare_rule (certificate_of cert.now) a) }
@@ -68,6 +73,7 @@ fn compare_rule(cert: &[u8], side: u8, e: Entry) -> bool
 }
 
 // No instruction starts here: all 14 bytes zero.
+#[tactic(auto, unfolding(safety::specs::Rules::empty_entry))]
 fn empty_entry(e: Entry) -> bool
     ensures { (C : Certificate) (a : ℕ) → e ≡ entry_of C a → result ≡ decide (empty_entry C a) }
 {
@@ -79,6 +85,7 @@ fn empty_entry(e: Entry) -> bool
 }
 
 // An entry names a used routine; depth 255 is in main only.
+#[tactic(auto, unfolding(crate::specs::Parts::routine_rule))]
 fn routine_rule(cert: &[u8], e: Entry) -> bool
     ensures { (a : ℕ) → e ≡ entry_of (certificate_of cert.now) a → result ≡ decide (routine_rule (certificate_of cert.now) a) }
 {
@@ -87,6 +94,7 @@ fn routine_rule(cert: &[u8], e: Entry) -> bool
 }
 
 // M only with a direction, and a direction only with a first claim; main has none of B, M, direction.
+#[tactic(auto, unfolding(crate::specs::Parts::bound_rule))]
 fn bound_rule(e: Entry) -> bool
     ensures { (C : Certificate) (a : ℕ) → e ≡ entry_of C a → result ≡ decide (bound_rule C a) }
 {
@@ -97,6 +105,7 @@ fn bound_rule(e: Entry) -> bool
 }
 
 // The claims and the compare are as they should be, and the two claims distinct.
+#[tactic(auto, unfolding(crate::specs::Parts::claims_rule))]
 fn claims_rule(cert: &[u8], e: Entry) -> bool
     ensures { (a : ℕ) → e ≡ entry_of (certificate_of cert.now) a → result ≡ decide (claims_rule (certificate_of cert.now) a) }
 {
@@ -123,6 +132,7 @@ fn entry_rule(cert: &[u8], e: Entry) -> bool
 }
 
 // An address with or without an entry; none stands past ROM's end.
+#[tactic(auto, unfolding(safety::specs::Rules::address_rule))]
 fn address_rule(rom: u16, cert: &[u8], a: RomAddr) -> bool
     ensures { result ≡ decide (address_rule (certificate_of cert.now) rom a.0) }
 {
@@ -141,6 +151,7 @@ fn start_depth(n: u8) -> u8
 }
 
 // Every start has its own routine's entry, depth 0 (main 255).
+#[tactic(auto, unfolding(safety::specs::Rules::start_rule))]
 fn start_rule(rom: u16, cert: &[u8], n: u8) -> bool
     ensures { result ≡ decide (start_rule (certificate_of cert.now) rom n) }
 {
@@ -151,6 +162,7 @@ fn start_rule(rom: u16, cert: &[u8], n: u8) -> bool
 }
 
 // Without claims or compare.
+#[tactic(auto, unfolding(safety::specs::Rules::bare_rule))]
 fn bare_rule(cert: &[u8], a: RomAddr) -> bool
     ensures { result ≡ decide (bare_rule (certificate_of cert.now) a.0) }
 {
@@ -158,6 +170,7 @@ fn bare_rule(cert: &[u8], a: RomAddr) -> bool
     (e.first.cell.0 == NO_CELL) & (e.second.cell.0 == NO_CELL) & (e.compare.cell.0 == NO_CELL)
 }
 
+#[tactic(auto, unfolding(crate::specs::Parts::cells_rule))]
 fn cells_rule(cert: &[u8]) -> bool
     ensures { result ≡ decide (cells_rule (certificate_of cert.now)) }
 {
@@ -171,6 +184,7 @@ fn cells_rule(cert: &[u8]) -> bool
     true
 }
 
+#[tactic(auto, unfolding(crate::specs::Parts::starts_rule))]
 fn starts_rule(rom: u16, cert: &[u8]) -> bool
     ensures { result ≡ decide (starts_rule (certificate_of cert.now) rom) }
 {
@@ -184,6 +198,7 @@ fn starts_rule(rom: u16, cert: &[u8]) -> bool
     true
 }
 
+#[tactic(auto, unfolding(crate::specs::Parts::addresses_rule))]
 fn addresses_rule(rom: u16, cert: &[u8]) -> bool
     ensures { result ≡ decide (addresses_rule (certificate_of cert.now) rom) }
 {
@@ -198,6 +213,7 @@ fn addresses_rule(rom: u16, cert: &[u8]) -> bool
 }
 
 // Main starts at 0100H, side 1, bound 0; row 0 is zero.
+#[tactic(auto, unfolding(crate::specs::Parts::main_rule))]
 fn main_rule(cert: &[u8]) -> bool
     ensures { result ≡ decide (main_rule (certificate_of cert.now)) }
 {
@@ -207,6 +223,7 @@ fn main_rule(cert: &[u8]) -> bool
 }
 
 // The service starts at the vector, side 2.
+#[tactic(auto, unfolding(crate::specs::Parts::service_rule))]
 fn service_rule(image: &[u8], cert: &[u8]) -> bool
     ensures { result ≡ decide (service_rule (certificate_of cert.now) image.now) }
 {
@@ -216,6 +233,7 @@ fn service_rule(image: &[u8], cert: &[u8]) -> bool
 }
 
 // F < T <= C0H, an entry's cost, and the rows of main and service.
+#[tactic(auto, unfolding(crate::specs::Parts::fixed_rule))]
 fn fixed_rule(image: &[u8], cert: &[u8]) -> bool
     ensures { result ≡ decide (fixed_rule (certificate_of cert.now) image.now) }
 {

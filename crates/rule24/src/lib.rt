@@ -20,6 +20,7 @@ fn in_table(cert: &[u8], n: u8, from: RegAddr, writing: bool, x: RegAddr) -> boo
 }
 
 // All of from to upto lies in one nonzero table, and where the pointer writes it may be written.
+#[tactic(auto, unfolding(crate::specs::Tables::one_table))]
 fn one_table(cert: &[u8], n: u8, from: RegAddr, upto: RegAddr, writing: bool) -> bool
     ensures { result ≡ decide (one_table (certificate_of cert.now) n from.0 upto.0 writing) }
 {
@@ -39,6 +40,7 @@ fn one_table(cert: &[u8], n: u8, from: RegAddr, upto: RegAddr, writing: bool) ->
 }
 
 // Every address that the pointer's claim, plus the offset, reaches lies in one nonzero table, and where it writes may be written.
+#[tactic(auto, using(crate::proofs::Outside::table_outside, claims::specs::Laws::decide_same), unfolding(safety::specs::Rules::reach, crate::specs::Tables::one_table))]
 fn reach(cert: &[u8], a: RomAddr, p: RegAddr, o: u8, writing: bool) -> bool
     ensures { result ≡ decide (reach_of (certificate_of cert.now) a.0 p.0 o writing) }
 {
@@ -107,6 +109,7 @@ fn code_in_rom(rom: u16, cert: &[u8], a: RomAddr, c: CodeAccess) -> bool
 }
 
 // Rule 24, for a ROM of rom bytes.
+#[tactic(auto, unfolding(safety::specs::Rules::rule24))]
 pub fn rule24(rom: u16, cert: &[u8], a: RomAddr, s: Summary) -> bool
     ensures { result ≡ decide (Rattle.safety.specs.Rules.rule24 (certificate_of cert.now) rom a.0 s) }
 {

@@ -45,6 +45,7 @@ fn enable_rule(depth: u8, k: Control) -> bool
 }
 
 // At CALL, depth 255, and depth + 2 + callee's need above own need.
+#[tactic(auto, unfolding(safety::specs::Rules::call_depth))]
 fn call_depth(cert: &[u8], depth: u8, need: u8, next: RomAddr, t: RomAddr) -> bool
     ensures { result ≡ decide (call_depth (certificate_of cert.now) depth need next.0 t.0) }
 {
@@ -115,6 +116,7 @@ fn stack_fits(cert: &[u8], a: RomAddr) -> bool
 }
 
 // Rule 25.
+#[tactic(auto, unfolding(safety::specs::Rules::rule25))]
 pub fn rule25(cert: &[u8], a: RomAddr, s: Summary, next: RomAddr) -> bool
     ensures { result ≡ decide (Rattle.safety.specs.Rules.rule25 (certificate_of cert.now) a.0 s next.0) }
 {

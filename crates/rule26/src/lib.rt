@@ -60,6 +60,7 @@ fn change_follows(n: Entry, e: Edge, c: Change, k: Claim) -> bool
 }
 
 // A claim at a successor follows.
+#[tactic(auto, unfolding(safety::specs::Rules::claim_follows))]
 fn claim_follows(n: Entry, e: Edge, w: Write, k: Claim) -> bool
     ensures { (C : Certificate) (a : ℕ) → n ≡ entry_of C a → result ≡ decide (claim_follows C a (edge_of e) w k.cell.0 k.low k.high) }
 {
@@ -102,6 +103,7 @@ fn flags_follow(n: Entry, w: Write, f: FlagEffect, t: Entry) -> bool
     }
 }
 
+#[tactic(auto, unfolding(safety::specs::Rules::compare_follows))]
 fn compare_follows(n: Entry, w: Write, f: FlagEffect, t: Entry) -> bool
     ensures { (C : Certificate) (a b : ℕ) → n ≡ entry_of C a → t ≡ entry_of C b → result ≡ decide (compare_follows C a w f b) }
 {
@@ -109,6 +111,7 @@ fn compare_follows(n: Entry, w: Write, f: FlagEffect, t: Entry) -> bool
 }
 
 // What holds at the target of an edge follows.
+#[tactic(auto, unfolding(safety::specs::Rules::edge26))]
 fn edge26(cert: &[u8], n: Entry, s: Summary, e: Edge) -> bool
     ensures { (a : ℕ) → n ≡ entry_of (certificate_of cert.now) a → result ≡ decide (Rattle.safety.specs.Rules.edge26 (certificate_of cert.now) a s (edge_of e)) }
 {
@@ -154,6 +157,7 @@ fn jump26(cert: &[u8], n: Entry, s: Summary, cc: u8, to: RomAddr) -> bool
 }
 
 // After CALL a claim survives if the callee's number k exceeds the writer limit.
+#[tactic(auto, unfolding(safety::specs::Rules::survives))]
 fn claim_survives(cert: &[u8], n: Entry, k: u8, c: Claim) -> bool
     ensures { (a : ℕ) → n ≡ entry_of (certificate_of cert.now) a → result ≡ decide (survives (certificate_of cert.now) a k c.cell.0 c.low c.high) }
 {
@@ -167,6 +171,7 @@ fn claim_survives(cert: &[u8], n: Entry, k: u8, c: Claim) -> bool
 }
 
 // What holds behind CALL, and at the start that it goes to, follows; g is its flag effect.
+#[tactic(auto, unfolding(safety::specs::Rules::call26))]
 fn call26(cert: &[u8], n: Entry, g: FlagEffect, next: RomAddr, t: RomAddr) -> bool
     ensures { (a : ℕ) → n ≡ entry_of (certificate_of cert.now) a → result ≡ decide (Rattle.safety.specs.Rules.call26 (certificate_of cert.now) a g next.0 t.0) }
 {
@@ -209,6 +214,7 @@ fn calls26(cert: &[u8], n: Entry, f: Flow, g: FlagEffect, next: RomAddr) -> bool
 }
 
 // Rule 26.
+#[tactic(auto, unfolding(safety::specs::Rules::rule26))]
 pub fn rule26(cert: &[u8], a: RomAddr, s: Summary, next: RomAddr) -> bool
     ensures { result ≡ decide (Rattle.safety.specs.Rules.rule26 (certificate_of cert.now) a.0 s next.0) }
 {

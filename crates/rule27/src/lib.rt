@@ -16,7 +16,7 @@ use entries::{Entry, NO_CELL};
 
 // What comes after an instruction: nothing; a callee's bound, and a successor's worst or its bound for the same value of the first claimed cell; a
 // successor's bound for a value one more, or one less.
-#[derive(Drop)]
+#[derive(Clone, Copy)]
 pub enum After {
     Nothing,
     Worst(u16, Entry),
@@ -77,6 +77,7 @@ fn paid_at(s: Values, e: Entry, cost: u8, f: After, c: u8) -> bool
 }
 
 // For every value that is left, the cost and what comes after are within the entry's bound.
+#[tactic(auto, unfolding(claims::specs::Values::among, crate::specs::Paid::all_paid))]
 fn all_paid(s: Values, e: Entry, cost: u8, f: After) -> bool
     ensures { result ≡ decide (all_paid s e cost f) }
 {
@@ -109,6 +110,7 @@ fn first_values(n: Entry, e: Edge, x: RegAddr) -> Values
 }
 
 // For each c left on the edge: cost and what comes after within the entry's bound. Main is exempt.
+#[tactic(auto, using(crate::proofs::Laws::paid_all), unfolding(safety::specs::Rules::paid))]
 fn paid(n: Entry, e: Edge, cost: u8, f: After) -> bool
     ensures { (C : Certificate) (a : ℕ) → n ≡ entry_of C a → result ≡ decide (Rattle.safety.specs.Rules.paid C a (edge_of e) cost (after_of f)) }
 {
@@ -119,6 +121,7 @@ fn paid(n: Entry, e: Edge, cost: u8, f: After) -> bool
 }
 
 // Both have the same first cell.
+#[tactic(auto, unfolding(safety::specs::Rules::same_first))]
 fn same_first(n: Entry, t: Entry) -> bool
     ensures { (C : Certificate) (a b : ℕ) → n ≡ entry_of C a → t ≡ entry_of C b → result ≡ same_first C a b }
 {
@@ -143,6 +146,7 @@ fn along(c: Change, e: Entry) -> After
 }
 
 // What comes after an edge from entry n to entry t.
+#[tactic(auto, using(crate::proofs::Laws::after_worst, crate::proofs::Laws::after_along))]
 fn after_edge(n: Entry, w: Write, t: Entry) -> After
     ensures { (C : Certificate) (a b c : ℕ) → n ≡ entry_of C a → t ≡ entry_of C b → after_of result c ≡ bound_after C a w b c }
 {
@@ -163,6 +167,7 @@ fn after_callee(kept: bool, bound: u16, e: Entry) -> After
 }
 
 // The callee's bound, and behind CALL c goes along if no callee can write the cell.
+#[tactic(auto, using(crate::proofs::Laws::after_call))]
 fn after_call(cert: &[u8], n: Entry, next: RomAddr, t: RomAddr) -> After
     ensures { (a c : ℕ) → n ≡ entry_of (certificate_of cert.now) a → after_of result c ≡ bound_after_call (certificate_of cert.now) a next.0 t.0 c }
 {
@@ -174,6 +179,7 @@ fn after_call(cert: &[u8], n: Entry, next: RomAddr, t: RomAddr) -> After
     after_callee(kept, callee.bound, behind)
 }
 
+#[tactic(auto, using(crate::proofs::Laws::paid_same), unfolding(safety::specs::Rules::edge27))]
 fn edge27(cert: &[u8], n: Entry, s: Summary, cost: u8, e: Edge) -> bool
     ensures { (a : ℕ) → n ≡ entry_of (certificate_of cert.now) a → result ≡ decide (Rattle.safety.specs.Rules.edge27 (certificate_of cert.now) a s cost (edge_of e)) }
 {
@@ -217,6 +223,7 @@ fn jump27(cert: &[u8], n: Entry, s: Summary, cost: u8, cc: u8, to: RomAddr) -> b
     edge27(cert, n, s, cost, e)
 }
 
+#[tactic(auto, using(crate::proofs::Laws::paid_same))]
 fn call27(cert: &[u8], n: Entry, cost: u8, next: RomAddr, t: RomAddr) -> bool
     ensures { (a : ℕ) → n ≡ entry_of (certificate_of cert.now) a →
         result ≡ decide (Rattle.safety.specs.Rules.paid (certificate_of cert.now) a (plain_edge next.0) cost (bound_after_call (certificate_of cert.now) a next.0 t.0)) }
@@ -251,6 +258,7 @@ fn opening_cost(cert: &[u8], n: u8) -> u8
 }
 
 // A row's bound is at least its start's worst and what opening costs.
+#[tactic(auto, unfolding(safety::specs::Rules::row_rule, safety::specs::Rules::worst, claims::specs::Bounds::worst_from))]
 fn row_rule(cert: &[u8], a: RomAddr, n: Entry) -> bool
     ensures { n ≡ entry_of (certificate_of cert.now) a.0 → result ≡ decide (row_rule (certificate_of cert.now) a.0) }
 {
@@ -302,6 +310,7 @@ fn ends27(n: Entry, f: Flow, cost: u8) -> bool
 }
 
 // Rule 27.
+#[tactic(auto, unfolding(safety::specs::Rules::rule27))]
 pub fn rule27(cert: &[u8], a: RomAddr, s: Summary, cost: u8, next: RomAddr) -> bool
     ensures { result ≡ decide (Rattle.safety.specs.Rules.rule27 (certificate_of cert.now) a.0 s cost next.0) }
 {

@@ -35,6 +35,7 @@ fn flow_allowed(n: u8, f: Flow) -> bool
 }
 
 // Rule 22.
+#[tactic(auto, unfolding(safety::specs::Rules::rule22))]
 pub fn rule22(cert: &[u8], a: RomAddr, s: Summary) -> bool
     ensures { result ≡ decide (Rattle.safety.specs.Rules.rule22 (certificate_of cert.now) a.0 s) }
 {
@@ -46,6 +47,7 @@ pub fn rule22(cert: &[u8], a: RomAddr, s: Summary) -> bool
 }
 
 // A successor is an entry of the same routine, n.
+#[tactic(auto, unfolding(safety::specs::Rules::successor))]
 fn successor(rom: u16, cert: &[u8], n: u8, t: RomAddr) -> bool
     ensures { result ≡ decide (Rattle.safety.specs.Rules.successor (certificate_of cert.now) rom n t.0) }
 {
@@ -54,6 +56,7 @@ fn successor(rom: u16, cert: &[u8], n: u8, t: RomAddr) -> bool
 }
 
 // CALL in routine n goes to the start of a greater number on the same side.
+#[tactic(auto, unfolding(safety::specs::Rules::call_target))]
 fn call_target(rom: u16, cert: &[u8], n: u8, t: RomAddr) -> bool
     ensures { result ≡ decide (call_target (certificate_of cert.now) rom n t.0) }
 {
@@ -90,6 +93,7 @@ fn calls21(rom: u16, cert: &[u8], n: u8, f: Flow, next: RomAddr) -> bool
 }
 
 // Rule 21, for a ROM of rom bytes.
+#[tactic(auto, unfolding(safety::specs::Rules::rule21))]
 pub fn rule21(rom: u16, cert: &[u8], a: RomAddr, s: Summary, next: RomAddr) -> bool
     ensures { result ≡ decide (Rattle.safety.specs.Rules.rule21 (certificate_of cert.now) rom a.0 s next.0) }
 {
@@ -100,6 +104,7 @@ pub fn rule21(rom: u16, cert: &[u8], a: RomAddr, s: Summary, next: RomAddr) -> b
 }
 
 // Routine n may write x: the class includes the side, and the routine is not above the writer limit.
+#[tactic(auto, unfolding(safety::specs::Rules::writable))]
 pub fn writable(cert: &[u8], n: u8, x: RegAddr) -> bool
     ensures { result ≡ decide (Rattle.safety.specs.Rules.writable (certificate_of cert.now) n x.0) }
 {
@@ -120,6 +125,7 @@ fn direct_read(x: Access) -> bool
 }
 
 // The second half of a pair is mapped and may be written.
+#[tactic(auto, using(crate::proofs::Outside::mapped_outside))]
 fn second_half(cert: &[u8], n: u8, p: RegAddr) -> bool
     ensures { result ≡ decide (mapped (p.0 + 1) & Rattle.safety.specs.Rules.writable (certificate_of cert.now) n (p.0 + 1)) }
 {
@@ -156,6 +162,7 @@ fn stack_load(depth: u8, top: u8, k: StackEffect) -> bool
 }
 
 // Rule 23.
+#[tactic(auto, unfolding(safety::specs::Rules::rule23))]
 pub fn rule23(cert: &[u8], a: RomAddr, s: Summary) -> bool
     ensures { result ≡ decide (Rattle.safety.specs.Rules.rule23 (certificate_of cert.now) a.0 s) }
 {

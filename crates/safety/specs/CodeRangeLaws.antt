@@ -82,7 +82,7 @@ widened_start q [] = omega arith
 widened_start q (b ∷ bs) = let h = widened_start (range (min q.least b) (max q.greatest b)) bs in omega arith
 
 -- and every byte of the list
-widened_holds : (q : Range) {b : ℕ} {bs : List ℕ} → Memᴰ b bs → ((widened q bs).least ≤ b) × (b ≤ (widened q bs).greatest)
+widened_holds : {b : ℕ} {bs : List ℕ} (q : Range) → Memᴰ b bs → ((widened q bs).least ≤ b) × (b ≤ (widened q bs).greatest)
 unfolding widened
 widened_holds q (Memᴰ.head {x} {xs} e) =
     let h = widened_start (range (min q.least x) (max q.greatest x)) xs in
@@ -102,7 +102,7 @@ unfolding widened
 widened_ends P Q q [] l g f = (l, g)
 widened_ends P Q q (b ∷ bs) l g f =
     let h = f b (Memᴰ.head refl) in
-    widened_ends P Q _ bs (min_max P q.least b l h.0).0 (min_max Q q.greatest b g h.1).1 (λ x m. f x (Memᴰ.tail m))
+    widened_ends P Q (range (min q.least b) (max q.greatest b)) bs (min_max P q.least b l h.0).0 (min_max Q q.greatest b g h.1).1 (λ x m. f x (Memᴰ.tail m))
 
 get_d_member : (l : List ℕ) (i : ℕ) → i < length l → Memᴰ (get_or l i 0) l
 get_d_member [] i h = absurd (omega arith)

@@ -367,6 +367,7 @@ fn load_code_step(
 }
 
 // The effect summary of an action at a and the flags that it names.
+#[tactic(auto, unfolding(certificate::specs::Summaries::summary_of))]
 pub fn summary_of(image: &[u8], cert: &[u8], a: RomAddr, action: Action, names: FlagSet) -> Summary
     ensures { result ≡ summary_of (load_range (certificate_of cert.now) image.now a.0) action names }
 {

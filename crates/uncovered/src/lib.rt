@@ -13,7 +13,7 @@ use coverage::{Map, WORDS};
 const WORD_BITS: u32 = coverage::WORD_BITS as u32;
 
 // The lowest unmarked start; none, where every start is marked; or a refusal by 7.
-#[derive(Drop)]
+#[derive(Clone, Copy)]
 pub enum Lowest {
     At(RomAddr),
     AllMarked,
