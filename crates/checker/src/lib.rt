@@ -33,6 +33,7 @@ fn unless(holds: bool, number: u8, behind: u8) -> u8
 }
 
 // The lowest number of a rule that does not hold, or 0.
+#[tactic(auto, unfolding(crate::specs::Tested::tested, safety::specs::Verdicts::first_broken))]
 fn lowest(h: Holding) -> u8
     ensures { result ≡ first_broken (tested h) }
 {
@@ -46,6 +47,7 @@ fn lowest(h: Holding) -> u8
 }
 
 // The lowest number of a rule that is broken at a, or 0, for a ROM of rom bytes.
+#[tactic(auto, using(crate::proofs::Laws::first_by_value))]
 fn first_broken(rom: u16, cert: &[u8], a: RomAddr, s: Summary, cost: u8, next: RomAddr) -> u8
     ensures { result ≡ first_broken (rules_on rom (certificate_of cert.now) a.0 s next.0 cost) }
 {
@@ -61,6 +63,7 @@ fn first_broken(rom: u16, cert: &[u8], a: RomAddr, s: Summary, cost: u8, next: R
 }
 
 // The number at an address with an entry.
+#[tactic(auto, unfolding(located::specs::Located::located_in, safety::specs::Verdicts::summary_at, safety::specs::Verdicts::next_at))]
 fn number_in(rom: u16, image: &[u8], cert: &[u8], a: RomAddr) -> u8
     ensures { result ≡ first_broken (rules_at rom (certificate_of cert.now) image.now a.0) }
 {
@@ -70,6 +73,7 @@ fn number_in(rom: u16, image: &[u8], cert: &[u8], a: RomAddr) -> u8
 }
 
 // The lowest number that is broken at an address; where no instruction starts, none is.
+#[tactic(auto, unfolding(safety::specs::Verdicts::number_by))]
 fn number_at(rom: u16, image: &[u8], cert: &[u8], a: RomAddr) -> u8
     ensures { result ≡ number_at rom (certificate_of cert.now) image.now a.0 }
 {
@@ -81,6 +85,7 @@ fn number_at(rom: u16, image: &[u8], cert: &[u8], a: RomAddr) -> u8
 }
 
 // The lowest address with a broken rule, and there the lowest number.
+#[tactic(auto, using(crate::proofs::Laws::scan_on, crate::proofs::Laws::scan_stop), unfolding(safety::specs::Verdicts::scan_by))]
 fn first_refusal(rom: u16, image: &[u8], cert: &[u8]) -> Verdict
     ensures { result ≡ scan rom (certificate_of cert.now) image.now rom 0 }
 {
@@ -96,6 +101,7 @@ fn first_refusal(rom: u16, image: &[u8], cert: &[u8]) -> Verdict
 }
 
 // The verdict on an image and a certificate, for a ROM of rom bytes.
+#[tactic(auto, using(crate::proofs::Laws::image_length_lem, crate::proofs::Laws::certificate_length, crate::proofs::Laws::layout_broken, crate::proofs::Laws::layout_holds))]
 fn verdict_for(rom: u16, image: &[u8], cert: &[u8]) -> Verdict
     ensures { result ≡ verdict_of rom image.now cert.now }
 {
@@ -113,6 +119,7 @@ fn verdict_for(rom: u16, image: &[u8], cert: &[u8]) -> Verdict
 
 // The verdict on an image of a part and a certificate: accepted exactly when no rule is broken, else the number and the address of the first broken
 // rule (demand 2). What is accepted is safe on every run of that part from reset, under every schedule (demand 3).
+#[tactic(auto, using(crate::proofs::Laws::verdict))]
 pub fn check(profile: Profile, image: &[u8], cert: &[u8]) -> Verdict
     ensures verdict { result ≡ verdict_of (part_of profile).rom image.now cert.now }
     ensures exact { Exact (part_of profile).rom image.now cert.now result }

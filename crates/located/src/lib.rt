@@ -30,6 +30,7 @@ fn no_instruction(a: RomAddr) -> Located
 }
 
 // The instruction of n bytes that was decoded at an address, with the flags that it names.
+#[tactic(auto, unfolding(crate::specs::Located::located_in, safety::specs::Verdicts::summary_from))]
 fn decoded_at(
     image: &[u8],
     cert: &[u8],
@@ -49,6 +50,7 @@ fn decoded_at(
 }
 
 // The instruction at an address; what does not decode there is forbidden.
+#[tactic(auto, unfolding(crate::specs::Located::located_in, safety::specs::Verdicts::summary_from))]
 pub fn instruction_at(image: &[u8], cert: &[u8], a: RomAddr) -> Located
     ensures { result ≡ located_at (certificate_of cert.now) image.now a.0 }
 {
@@ -61,6 +63,7 @@ pub fn instruction_at(image: &[u8], cert: &[u8], a: RomAddr) -> Located
 }
 
 // The cycles of the instruction that starts at an address.
+#[tactic(auto, unfolding(safety::specs::Verdicts::cost_at))]
 pub fn cost_at(image: &[u8], a: RomAddr) -> u8
     ensures { result ≡ cost_at image.now a.0 }
 {

@@ -36,6 +36,7 @@ fn write_word(out: &mut [u8], at: usize, word: &[u8]) -> usize
 }
 
 // A number in at most k digits.
+#[tactic(auto, using(crate::specs::ReportLaws::decimal_last, crate::specs::ReportLaws::decimal_more, crate::specs::ReportLaws::decimal_length), unfolding(crate::specs::Report::decimal))]
 fn write_decimal(out: &mut [u8], at: usize, k: u8, x: u16) -> usize
     requires { at + k ≤ length out.old }
     ensures { Stored (decimal k x) at result out.old out.new }
@@ -51,6 +52,7 @@ fn write_decimal(out: &mut [u8], at: usize, k: u8, x: u16) -> usize
 }
 
 // A number, and the character behind it.
+#[tactic(auto, using(crate::specs::ReportLaws::decimal_length), unfolding(crate::specs::Report::number_text))]
 fn write_number(out: &mut [u8], at: usize, k: u8, x: u16, end: u8) -> usize
     requires { at + k < length out.old }
     ensures { Stored (number_text k x end) at result out.old out.new }
@@ -73,6 +75,7 @@ fn write_address(out: &mut [u8], at: usize, x: u16, end: u8) -> usize
 }
 
 // Routine, start, need, bound.
+#[tactic(auto, using(crate::specs::ReportLaws::number_length), unfolding(crate::specs::Report::row_text))]
 fn write_row(out: &mut [u8], at: usize, n: u8, cert: &[u8]) -> usize
     requires { at + 18 ≤ length out.old }
     ensures { Stored (row_text (certificate_of cert.now) n) at result out.old out.new }
@@ -97,6 +100,7 @@ fn write_routine(out: &mut [u8], at: usize, n: u8, cert: &[u8]) -> usize
 }
 
 // `accepted`, and a row for each used routine.
+#[tactic(auto, using(crate::specs::ReportLaws::rows_text_more, crate::specs::ReportLaws::rows_length), unfolding(crate::specs::Report::rows_text, crate::specs::Report::accepted_text))]
 fn write_accepted(out: &mut [u8], cert: &[u8]) -> usize
     requires { longest_report ≤ length out.old }
     ensures { Stored (accepted_text (certificate_of cert.now)) 0 result out.old out.new }
@@ -111,6 +115,7 @@ fn write_accepted(out: &mut [u8], cert: &[u8]) -> usize
 }
 
 // `refused`, number and address.
+#[tactic(auto, using(crate::specs::ReportLaws::number_length), unfolding(crate::specs::Report::refused_text))]
 fn write_refused(out: &mut [u8], number: u8, address: RomAddr) -> usize
     requires { longest_report ≤ length out.old }
     ensures { Stored (refused_text number address.0) 0 result out.old out.new }
@@ -121,6 +126,7 @@ fn write_refused(out: &mut [u8], number: u8, address: RomAddr) -> usize
 }
 
 // Writes the text of a verdict at the front of a buffer. A refusal leaves the buffer as it was.
+#[tactic(auto, using(crate::specs::ReportLaws::report_stored), unfolding(crate::specs::Report::report_answer, crate::specs::Report::report_buffer))]
 pub fn write_report(verdict: Verdict, cert: &[u8], out: &mut [u8]) -> Written
     ensures result_value { written_outcome result ≡ report_answer verdict cert.now (length out.old) }
     ensures out_after { out.new ≡ report_buffer verdict cert.now out.old }
