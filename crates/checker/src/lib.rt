@@ -119,7 +119,6 @@ fn verdict_for(rom: u16, image: &[u8], cert: &[u8]) -> Verdict
 
 // The verdict on an image of a part and a certificate: accepted exactly when no rule is broken, else the number and the address of the first broken
 // rule (demand 2). What is accepted is safe on every run of that part from reset, under every schedule (demand 3).
-#[tactic(auto, using(crate::proofs::Laws::verdict))]
 pub fn check(profile: Profile, image: &[u8], cert: &[u8]) -> Verdict
     ensures verdict { result ≡ verdict_of (part_of profile).rom image.now cert.now }
     ensures exact { Exact (part_of profile).rom image.now cert.now result }

@@ -37,7 +37,7 @@ fn is_start(cert: &[u8], a: RomAddr) -> bool
 }
 
 // A bit for each address of a word of a map, the lowest address first: set where no instruction starts.
-#[tactic(auto, using(crate::proofs::Words::Upto, crate::proofs::Words::upto_none, crate::proofs::Words::upto_set, crate::proofs::Words::upto_kept))]
+#[tactic(auto, using(crate::proofs::Words::upto_none, crate::proofs::Words::upto_set, crate::proofs::Words::upto_kept))]
 fn others(cert: &[u8], word: usize) -> u64
     requires { word < 64 }
     ensures { (k : ℕ) → k < 64 → bit_of result k ≡ not (is_start (certificate_of cert.now) (64 * word + k)) }
@@ -54,7 +54,7 @@ fn others(cert: &[u8], word: usize) -> u64
 }
 
 // The lowest start of a certificate that the map has not marked. A start is an address whose entry's routine is not 0.
-#[tactic(auto, using(crate::specs::LowestLaws::at_lowest, crate::specs::LowestLaws::marked_all, crate::specs::LowestLaws::refused_length, crate::specs::LowestLaws::start_in_rom, crate::proofs::Words::MarkedBelow, crate::proofs::Words::LowestBit, crate::proofs::Words::clear_bit, crate::proofs::Words::lowest_bit))]
+#[tactic(auto)]
 pub fn lowest_unmarked(cert: &[u8], map: &Map) -> Lowest
     ensures { result ≡ lowest_of cert.now map.now }
 {
