@@ -8,7 +8,7 @@ use Rattle.semantics.specs.declared.Stepped.{Stepped}
 use Rattle.semantics.specs.Step.{acted_of, settled, valid_machine, step_of}
 use Rattle.semantics.specs.Run.{record_at, run_from, ran}
 use Rattle.machine.specs.Count.{state_behind}
-use Rattle.machine.specs.ReachedLaws.{state_next}
+use Rattle.machine.proofs.ReachedLaws.{state_next}
 
 -- a step on what is valid
 pub step_right : (K : Setup) (image : List ℕ) (s : State) (rec : List ℕ) → valid_machine K image ≡ true → length rec ≡ record_length

@@ -1,7 +1,7 @@
 -- Which addresses a run reaches (02, request 06): those at which "the instructions completed in this run" begin; "entries, waiting steps and stopped
 -- steps set none". And what a run with a coverage map leaves.
 -- Assumes nothing.
-use Rattle.std.specs.Prelude.{ℕ, zero, suc, ◌≡◌, Bool, false, ◌&&◌, ◌||◌, List, length, eqb}
+use Rattle.std.specs.Prelude.{ℕ, zero, suc, ◌<◌, ◌≡◌, Bool, false, ◌&&◌, ◌||◌, List, length, eqb}
 use Rattle.base.specs.Choice.{pick}
 use Rattle.semantics.specs.Setup.{Setup}
 use Rattle.semantics.specs.declared.State.{State}
@@ -10,6 +10,7 @@ use Rattle.semantics.specs.Step.{acted_of}
 use Rattle.semantics.specs.Run.{ran, record_at, run_of}
 use Rattle.coverage.specs.Map.{is_map_length, marked, inside, map_of}
 use Rattle.machine.specs.Count.{state_behind, completed_steps}
+use Rattle.machine.specs.Retired.{Completes}
 
 -- whether step i of a run from s completes an instruction that begins at an address
 unfoldable pub begins_at : Setup → List ℕ → State → List ℕ → ℕ → ℕ → Bool
@@ -41,3 +42,10 @@ covered_run K image s schedule n = pick (is_map_length n) (run_of K image s sche
 -- "its old bits and those of the instructions completed in this run, no others"
 unfoldable pub covered_map : Setup → List ℕ → State → List ℕ → List ℕ → List ℕ
 covered_map K image s schedule m = pick (is_map_length (length m)) (map_of (λ a. marked m a || reached K image s schedule a)) m
+
+-- an address at which an instruction began that a run completed: the state before that step was there
+pub record Reaches (K : Setup) (image : List ℕ) (s : State) (schedule : List ℕ) (a : ℕ) : Type 0 where
+  pub step : ℕ
+  pub completed : step < completed_steps K image s schedule
+  pub instruction : Completes K image (state_behind step K image schedule 0 s) (record_at schedule step)
+  pub address : (state_behind step K image schedule 0 s).pc.0 ≡ a

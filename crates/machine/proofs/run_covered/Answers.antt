@@ -1,7 +1,7 @@
 -- A map of another length is refused by 7 as it is; else the run marks, and its marks are the map.
 use Rattle.std.proofs.Common.{◌∙◌, ne_eqb}
 use Rattle.machine.specs.Reached.{covered_map}
-use Rattle.machine.specs.ReachedLaws.{covered}
+use Rattle.machine.proofs.ReachedLaws.{covered}
 use Rattle.machine.proofs.run_covered.Goals as goal
 
 pub returns-then-map-ne-WORDS-clause-map : goal.returns-then-map-ne-WORDS-clause-map

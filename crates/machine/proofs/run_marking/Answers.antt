@@ -2,7 +2,7 @@
 use Rattle.std.proofs.Common.{◌≡◌, refl, rules}
 use Rattle.semantics.specs.Setup.{setup_of}
 use Rattle.semantics.specs.Run.{ran, run_of}
-use Rattle.machine.specs.ReachedLaws.{marks_none, marks_too}
+use Rattle.machine.proofs.ReachedLaws.{marks_none, marks_too}
 use Rattle.machine.proofs.run_marking.Goals as goal
 
 pub returns-then-not-valid_machine-clause-map : goal.returns-then-not-valid_machine-clause-map

@@ -4,7 +4,7 @@ use Rattle.std.proofs.Math.Nat.{sub-zero}
 use Rattle.base.specs.Lengths.{record_length}
 use Rattle.entry.specs.InPlace.{state_with, stepped}
 use Rattle.machine.specs.Count.{state_behind}
-use Rattle.machine.specs.ReachedLaws.{marks_none, marks_next}
+use Rattle.machine.proofs.ReachedLaws.{marks_none, marks_next}
 use Rattle.machine.proofs.Joins.{goes_on, stops, ends, comes_to, retires}
 use Rattle.machine.proofs.run_records.Goals as goal
 

@@ -13,7 +13,7 @@ use Rattle.semantics.specs.Step.{refuse, entry_due, requested, after_decode, ins
 use Rattle.semantics.specs.Run.{ran, run_of}
 use Rattle.coverage.specs.MapLaws.{Words}
 use Rattle.machine.specs.Reached.{covered_run, covered_map}
-use Rattle.machine.specs.EntryLaws.{step_invalid, run_invalid, covered_invalid}
+use Rattle.machine.proofs.EntryLaws.{step_invalid, run_invalid, covered_invalid}
 
 -- "takes images of 2048 bytes": in every call, and nothing is done
 module _ (K : Setup) (image : List ℕ) (s : State) (other : length image ≢ K.part.rom) where

@@ -14,7 +14,8 @@ use Rattle.semantics.specs.declared.Ran.{Ran}
 use Rattle.semantics.specs.Run.{record_at, run_of}
 use Rattle.coverage.specs.Map.{map_words, marked, inside, with_mark}
 use Rattle.coverage.specs.MapLaws.{Words, marked_with, map_of_marks}
-use Rattle.machine.specs.Count.{state_behind, steps_completed}
+use Rattle.machine.specs.Count.{state_behind}
+use Rattle.machine.proofs.CountLaws.{steps_completed}
 use Rattle.machine.specs.Reached.{Marks, begins_at, reached_in, reached, covered_map}
 
 -- the state behind one record more

@@ -23,15 +23,8 @@ use Rattle.coverage.specs.Map.{map_words, is_map_length, marked, map_of, empty_m
 use Rattle.coverage.specs.BitLaws.{count_same}
 use Rattle.coverage.specs.MapLaws.{Words, marked_map_of, map_of_marks, length_map_of, words_map_of, marked_past, same_marks, marked_empty, marked_joined, words_joined, length_joined}
 use Rattle.machine.specs.Count.{state_behind, completed_steps}
-use Rattle.machine.specs.Reached.{begins_at, some_below, reached, covered_run, covered_map}
-use Rattle.machine.specs.Retired.{Completes, retired_completes, completes_retired, completes_place}
-
--- an address at which an instruction began that a run completed: the state before that step was there
-pub record Reaches (K : Setup) (image : List ℕ) (s : State) (schedule : List ℕ) (a : ℕ) : Type 0 where
-  pub step : ℕ
-  pub completed : step < completed_steps K image s schedule
-  pub instruction : Completes K image (state_behind step K image schedule 0 s) (record_at schedule step)
-  pub address : (state_behind step K image schedule 0 s).pc.0 ≡ a
+use Rattle.machine.specs.Reached.{Reaches, begins_at, some_below, reached, covered_run, covered_map}
+use Rattle.machine.specs.Retired.{retired_completes, completes_retired, completes_place}
 
 -- a test that holds somewhere below n
 has_some : (n : ℕ) (f : ℕ → Bool) (i : ℕ) → i < n → f i ≡ true → some_below n f ≡ true

@@ -20,9 +20,10 @@ use Rattle.semantics.specs.Step.{valid_machine, step_of}
 use Rattle.semantics.specs.Run.{ran, run_of}
 use Rattle.coverage.specs.Map.{is_map_length}
 use Rattle.coverage.specs.MapLaws.{Words}
-use Rattle.machine.specs.Count.{cost_of, step_accounts}
+use Rattle.machine.specs.Count.{cost_of, SameButCycles}
+use Rattle.machine.proofs.CountLaws.{step_accounts}
 use Rattle.machine.specs.Reached.{covered_run, covered_map}
-use Rattle.machine.specs.CoveredLaws.{covered_refused}
+use Rattle.machine.proofs.CoveredLaws.{covered_refused}
 
 module _ (K : Setup) (image : List ℕ) (s : State) (rec : List ℕ) where
   -- "The entry step costs that much"
@@ -35,13 +36,6 @@ module _ (K : Setup) (image : List ℕ) (s : State) (rec : List ℕ) where
       → (step_of K image s rec).state.cycles ≡ (s.cycles + K.entry_cost) % 4294967296
   entry_adds small due goes =
       (step_accounts s small K image rec).completed goes ∙ ap (λ (c : ℕ). (s.cycles + c) % 4294967296) (entry_cost_lem due)
-
--- two steps that differ at most in the cycle total
-pub record SameButCycles (a b : Stepped) : Type 0 where
-  pub regs : a.state.regs ≡ b.state.regs
-  pub pc : a.state.pc ≡ b.state.pc
-  pub mode : a.state.mode ≡ b.state.mode
-  pub stop : a.stop ≡ b.stop
 
 same : (a : Stepped) → SameButCycles a a
 same a = record { regs = refl; pc = refl; mode = refl; stop = refl }

@@ -24,9 +24,10 @@ use Rattle.semantics.specs.Step.{valid_machine, acted_of, step_of}
 use Rattle.semantics.specs.Run.{ran, record_at, run_from, run_of}
 use Rattle.coverage.specs.Map.{is_map_length, marked, map_of}
 use Rattle.coverage.specs.MapLaws.{length_map_of, marked_map_of, same_map_of}
-use Rattle.machine.specs.Count.{completed_of, completed_steps, state_behind, run_steps, run_state, steps_completed}
+use Rattle.machine.specs.Count.{completed_of, completed_steps, state_behind}
+use Rattle.machine.proofs.CountLaws.{run_steps, run_state, steps_completed}
 use Rattle.machine.specs.Reached.{begins_at, some_below, reached, covered_map}
-use Rattle.machine.specs.ReachedLaws.{state_more}
+use Rattle.machine.proofs.ReachedLaws.{state_more}
 
 -- the choice that a run makes by whether a step is completed
 abbrev fork : {A : Type 0} → Bool → A → A → A
