@@ -1,5 +1,6 @@
 // The judgement of an image file and a certificate file that were read, and the buffers that they are read into.
 #![tactic(auto)]
+
 ghost use Rattle.std.specs.Prelude.{◌≡◌, length};
 ghost use Rattle.hex_text.specs.Text.{text_outcome};
 ghost use Rattle.hex_write.specs.ImageText.{written_outcome};
@@ -12,12 +13,14 @@ use hex_text::Text;
 use hex_write::Written;
 
 // The buffers before the files are read. A file without the byte at E482H leaves 0 there.
+#[tactic(auto, unfolding(crate::specs::Judgement::filled))]
 pub fn blank_image() -> [u8; base::IMAGE_4K]
     ensures { result ≡ blank_image }
 {
     [0xFF; base::IMAGE_4K]
 }
 
+#[tactic(auto, unfolding(crate::specs::Judgement::filled))]
 pub fn blank_certificate() -> [u8; base::LONG_CERTIFICATE_LENGTH]
     ensures { result ≡ blank_certificate }
 {

@@ -1,5 +1,6 @@
 // The text that `bridgecheck` prints of a verdict.
 #![tactic(auto)]
+
 ghost use Rattle.std.specs.Prelude.{◌≡◌, ◌+◌, ◌<◌, ◌≤◌, [], ◌∷◌, length};
 ghost use Rattle.certificate.specs.Layout.{certificate_of};
 ghost use Rattle.hex_write.specs.ImageText.{written_outcome};
@@ -36,7 +37,7 @@ fn write_word(out: &mut [u8], at: usize, word: &[u8]) -> usize
 }
 
 // A number in at most k digits.
-#[tactic(auto, using(crate::specs::ReportLaws::decimal_last, crate::specs::ReportLaws::decimal_more, crate::specs::ReportLaws::decimal_length), unfolding(crate::specs::Report::decimal))]
+#[tactic(auto, using(crate::specs::ReportLaws::decimal_last, crate::specs::ReportLaws::decimal_length), unfolding(crate::specs::Report::decimal))]
 fn write_decimal(out: &mut [u8], at: usize, k: u8, x: u16) -> usize
     requires { at + k ≤ length out.old }
     ensures { Stored (decimal k x) at result out.old out.new }
@@ -52,7 +53,7 @@ fn write_decimal(out: &mut [u8], at: usize, k: u8, x: u16) -> usize
 }
 
 // A number, and the character behind it.
-#[tactic(auto, using(crate::specs::ReportLaws::decimal_length), unfolding(crate::specs::Report::number_text))]
+#[tactic(auto, using(crate::specs::ReportLaws::decimal_length))]
 fn write_number(out: &mut [u8], at: usize, k: u8, x: u16, end: u8) -> usize
     requires { at + k < length out.old }
     ensures { Stored (number_text k x end) at result out.old out.new }
@@ -75,7 +76,7 @@ fn write_address(out: &mut [u8], at: usize, x: u16, end: u8) -> usize
 }
 
 // Routine, start, need, bound.
-#[tactic(auto, using(crate::specs::ReportLaws::number_length), unfolding(crate::specs::Report::row_text))]
+#[tactic(auto, using(crate::specs::ReportLaws::number_length))]
 fn write_row(out: &mut [u8], at: usize, n: u8, cert: &[u8]) -> usize
     requires { at + 18 ≤ length out.old }
     ensures { Stored (row_text (certificate_of cert.now) n) at result out.old out.new }
@@ -100,7 +101,7 @@ fn write_routine(out: &mut [u8], at: usize, n: u8, cert: &[u8]) -> usize
 }
 
 // `accepted`, and a row for each used routine.
-#[tactic(auto, using(crate::specs::ReportLaws::rows_text_more, crate::specs::ReportLaws::rows_length), unfolding(crate::specs::Report::rows_text, crate::specs::Report::accepted_text))]
+#[tactic(auto, using(crate::specs::ReportLaws::rows_length), unfolding(crate::specs::Report::rows_text))]
 fn write_accepted(out: &mut [u8], cert: &[u8]) -> usize
     requires { longest_report ≤ length out.old }
     ensures { Stored (accepted_text (certificate_of cert.now)) 0 result out.old out.new }
@@ -115,7 +116,7 @@ fn write_accepted(out: &mut [u8], cert: &[u8]) -> usize
 }
 
 // `refused`, number and address.
-#[tactic(auto, using(crate::specs::ReportLaws::number_length), unfolding(crate::specs::Report::refused_text))]
+#[tactic(auto, using(crate::specs::ReportLaws::number_length))]
 fn write_refused(out: &mut [u8], number: u8, address: RomAddr) -> usize
     requires { longest_report ≤ length out.old }
     ensures { Stored (refused_text number address.0) 0 result out.old out.new }
