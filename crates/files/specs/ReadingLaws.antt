@@ -20,7 +20,7 @@ use Rattle.report.specs.Report.{report_answer, report_buffer}
 use Rattle.judge.specs.Judgement.{judgement, image_length, blank_image, blank_certificate}
 use Rattle.judge.specs.JudgementLaws.{ReadFrom, judged}
 use Rattle.judge.specs.Refusals.{printed_within}
-use Rattle.files.specs.Reading.{line_end, line_ends, counted, Fed, Settled, Turned, turns_left, answer_of, Reads, Judges}
+use Rattle.files.specs.Reading.{line_end, line_ends, counted, Fed, Turned, turns_left, answer_of, Reads, Judges}
 
 counted_more : (n a b : ℕ) → counted (counted n a) b ≡ counted n (a + b)
 unfolding counted
