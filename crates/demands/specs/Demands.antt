@@ -63,9 +63,10 @@ use Rattle.certificate.specs.declared.Verdict.{Verdict}
 use Rattle.certificate.specs.declared.Verdict.TheVariants.{Accepted, Refused}
 use Rattle.certificate.specs.Layout.{certificate_of}
 use Rattle.safety.specs.Verdicts.{verdict_of, Broken, Reports, Exact}
-use Rattle.safety.specs.Exact.{CheckNumber, verdict_number, accepted_only_when, accepted_when, refused_only_when, refused_when, exact}
+use Rattle.safety.specs.Verdicts.{CheckNumber}
+use Rattle.safety.proofs.Exact.{verdict_number, accepted_only_when, accepted_when, refused_only_when, refused_when, exact}
 use Rattle.safety.specs.Statement.{Demand3}
-use Rattle.safety.specs.Theorem.{demand3}
+use Rattle.safety.proofs.Theorem.{demand3}
 use Rattle.report.specs.Report.{report_answer, report_buffer}
 use Rattle.report.specs.Refusals.{report_number, report_unchanged, length_report_buffer}
 use Rattle.judge.specs.Judgement.{printed_answer, printed_buffer}

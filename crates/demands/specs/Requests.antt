@@ -57,17 +57,18 @@ use Rattle.certificate.specs.Summaries.{range, code_access}
 use Rattle.safety.specs.Rules.{no_cell, ram_end, Edge, low, high, worst, code_in_rom, change_of, empty_entry, rule20, edge26, rule26, opening_cost}
 use Rattle.safety.specs.Rules.Change.{changed}
 use Rattle.safety.specs.CodeRange.{load_range}
-use Rattle.safety.specs.CodeRangeLaws.{Reaches as CodeReaches, ReachedByte, SetInRom, set_in_rom, whole_set_in_rom, unclaimed}
-use Rattle.safety.specs.CodeRangeLaws.{loaded_holds, loaded_least, loaded_greatest, loaded_direct}
-use Rattle.safety.specs.CodeLoads.{code_of_load, code_of_step, destination_of_load, destination_of_step, pair_of_step}
+use Rattle.safety.specs.CodeReach.{Reaches as CodeReaches, ReachedByte, SetInRom}
+use Rattle.safety.proofs.CodeRangeLaws.{set_in_rom, whole_set_in_rom, unclaimed}
+use Rattle.safety.proofs.CodeRangeLaws.{loaded_holds, loaded_least, loaded_greatest, loaded_direct}
+use Rattle.safety.proofs.CodeLoads.{code_of_load, code_of_step, destination_of_load, destination_of_step, pair_of_step}
 use Rattle.safety.specs.Verdicts.{summary_at, verdict_of, Broken}
-use Rattle.safety.specs.EntryCost as cost
-use Rattle.safety.specs.SmallerCost.{smaller_cost, smaller_cost_safe}
-use Rattle.safety.specs.SmallPart.{image_of_other_length, entry_past_rom, byte_past_rom, bytes_past_rom}
-use Rattle.safety.specs.Formerly as formerly
+use Rattle.safety.proofs.EntryCost as cost
+use Rattle.safety.proofs.SmallerCost.{smaller_cost, smaller_cost_safe}
+use Rattle.safety.proofs.SmallPart.{image_of_other_length, entry_past_rom, byte_past_rom, bytes_past_rom}
+use Rattle.safety.proofs.Formerly as formerly
 use Rattle.safety.specs.Formerly.{verdict_formerly}
 use Rattle.safety.specs.Statement.{Schedule, Open, entered, spent, setup_for, Demand3}
-use Rattle.safety.specs.Theorem.{demand3}
+use Rattle.safety.proofs.Theorem.{demand3}
 use Rattle.flag_names.specs.Stores.{stores_flags}
 use Rattle.flag_names.specs.Kept.{flags_in, unnamed_kept, iret_named, iret_loads}
 use Rattle.flag_names.specs.Witnesses.{ChangedBy, named_changed}

@@ -44,7 +44,7 @@ use Rattle.semantics.specs.Setup.{Setup}
 use Rattle.semantics.specs.Step.{Acted, requested, entry_due, behind, finish_of, after_decode, instruction_act, waiting_act, mode_act, act_after_requests, acted_of, settled}
 use Rattle.semantics.specs.Step.{valid_machine, step_of}
 use Rattle.safety.specs.Invariant.{Shaped}
-use Rattle.safety.specs.DecodedShape.{decoded_shaped}
+use Rattle.safety.proofs.DecodedShape.{decoded_shaped}
 use Rattle.flag_names.specs.Stores.{pushed_to, stored_to, stores_flags}
 
 -- FLAGS in the register file

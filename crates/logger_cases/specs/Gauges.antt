@@ -19,7 +19,7 @@ use Rattle.semantics.specs.Run.{record_at}
 use Rattle.semantics.specs.Reset.{IsReset}
 use Rattle.certificate.specs.Layout.{Certificate, certificate_from, certificate_of}
 use Rattle.safety.specs.Statement.{Event, executed, event_of, Monitored, acted_state, monitor_step, EventRight, StepRight, Walk, from_reset, Schedule, Demand3}
-use Rattle.safety.specs.Theorem.{demand3}
+use Rattle.safety.proofs.Theorem.{demand3}
 use Rattle.logger_cases.specs.Gathered.{gathered, up_to, certificate_bytes, certificate_is}
 use Rattle.logger_cases.specs.Program.{image_for, image_with, entry, cell, row, certificate_for, ends, certificate_with, entry_length, cell_length_lem, row_length}
 use Rattle.logger_cases.specs.Cases.{accepted_p_lem}

@@ -24,11 +24,11 @@ use Rattle.certificate.specs.declared.Access.{Access}
 use Rattle.certificate.specs.declared.CodeAccess.{CodeAccess}
 use Rattle.certificate.specs.declared.FlagEffect.{FlagEffect}
 use Rattle.certificate.specs.declared.FlagEffect.TheVariants.{Kept, Changed, Compared}
-use Rattle.certificate.specs.declared.StackEffect.TheVariants.{Same, Push, Pop, Load}
+use Rattle.certificate.specs.declared.StackEffect.TheVariants.{Same, Load}
 use Rattle.certificate.specs.declared.Summary.{Summary}
 use Rattle.certificate.specs.Summaries.{reading, moving, into, binary_value, binary_flags, binary_summary, modify_value, flag_effect, load_summary, summary_of}
 use Rattle.safety.specs.Rules.{no_cell, direct_read}
-use Rattle.safety.specs.Edge.{Copies, Compares}
+use Rattle.safety.proofs.Edge.{Copies, Compares}
 
 -- the register that is copied is the one read
 abbrev pub Reads : Write → Access → Type 0

@@ -25,9 +25,9 @@ use Rattle.certificate.specs.declared.Flow.{Flow}
 use Rattle.certificate.specs.Layout.{Certificate}
 use Rattle.certificate.specs.Summaries.{summary_of, flag_effect, controlling, onward, switching}
 use Rattle.safety.specs.Invariant.{at, Refines, Before, enabled_after, Does, Shaped}
-use Rattle.safety.specs.Facts.{Global, EntryFacts}
-use Rattle.safety.specs.Memory.{Input, interrupts_registers}
-use Rattle.safety.specs.RefineOperands.{Written, nothing_written, refines_beyond, refines_flags, does_onward, flags_kept, flags_set}
+use Rattle.safety.proofs.Facts.{Global, EntryFacts}
+use Rattle.safety.proofs.Memory.{Input, interrupts_registers}
+use Rattle.safety.proofs.RefineOperands.{Written, nothing_written, refines_beyond, refines_flags, does_onward, flags_kept, flags_set}
 use Rattle.safety.specs.StepRules.{StepRules}
 
 -- the number of the address that a test chooses

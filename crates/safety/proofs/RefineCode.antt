@@ -31,12 +31,13 @@ use Rattle.safety.specs.Rules.Change.{unchanged, changed}
 use Rattle.certificate.specs.declared.FlagEffect.TheVariants.{Changed}
 use Rattle.certificate.specs.Summaries.{summary_of, flag_effect, code_access, reaching}
 use Rattle.safety.specs.Invariant.{at, Registers, Refines, Before, Effect, Does, Shaped, SmallOffset}
-use Rattle.safety.specs.Facts.{Global, EntryFacts, Writable, is_writable}
-use Rattle.safety.specs.Memory.{Input, load_small, mapped_byte, store_registers}
-use Rattle.safety.specs.RefineOperands.{Written, claimed_ram, not_writable, register_written, refines_written, flags_kept}
+use Rattle.safety.proofs.Facts.{Global, EntryFacts, Writable, is_writable}
+use Rattle.safety.proofs.Memory.{Input, load_small, mapped_byte, store_registers}
+use Rattle.safety.proofs.RefineOperands.{Written, claimed_ram, not_writable, register_written, refines_written, flags_kept}
 use Rattle.safety.specs.CodeRange.{load_range}
-use Rattle.safety.specs.CodeRangeLaws.{PairReaches, Reaches, reached_in_rom, loaded_holds}
-use Rattle.safety.specs.Edge.{beyond_ram}
+use Rattle.safety.specs.CodeReach.{PairReaches, Reaches}
+use Rattle.safety.proofs.CodeRangeLaws.{reached_in_rom, loaded_holds}
+use Rattle.safety.proofs.Edge.{beyond_ram}
 use Rattle.safety.specs.StepRules.{StepRules}
 
 -- u stored at x, v at y, w at z

@@ -1,7 +1,7 @@
 -- What the rules say of the whole certificate, of one entry and of one cell, as records of facts.
 -- Assumes nothing.
 use Rattle.std.specs.Prelude.{◌≡◌, ◌≢◌, ◌⊎◌, true, List, ℕ, ◌+◌, ◌≤◌, ◌<◌}
-use Rattle.std.proofs.Math.Path.{refl, ap}
+use Rattle.std.proofs.Math.Path.{ap}
 use Rattle.std.proofs.Common.{sym, ◌∙◌}
 use Rattle.std.proofs.Math.Logic.{inl, inr, ⊎_elim}
 use Rattle.std.proofs.Math.Bool.{false≢true}
@@ -13,9 +13,8 @@ use Rattle.chip.specs.Registers.{mapped_of}
 use Rattle.certificate.specs.declared.Summary.{Summary}
 use Rattle.certificate.specs.Layout.{Certificate}
 use Rattle.safety.specs.Rules.{ram_end, unloaded, no_cell, worst, used, cell_rule, claimable, claim_rule, compare_rule}
-use Rattle.safety.specs.Rules.{entry_rule, address_rule, start_rule, bare_rule, rule20, opening_cost, row_rule, rule25, rule27, writable}
+use Rattle.safety.specs.Rules.{entry_rule, address_rule, start_rule, bare_rule, rule20, opening_cost, row_rule, rule27, writable}
 use Rattle.semantics.specs.Step.{vector_of}
-use Rattle.safety.specs.Accepted.{Accepts}
 
 -- rule 20 at an entry
 pub record EntryFacts (C : Certificate) (a : ℕ) : Type 0 where
@@ -140,17 +139,17 @@ module _ (rom : ℕ) (C : Certificate) (image : List ℕ) (parts : Rule20Facts r
   pub entry_in_rom : (a : ℕ) → a < largest_rom → 1 ≤ C.routine a → a < rom
   entry_in_rom a h u = (entry_rule_lem a h u).0
 
-  entry_at : (a : ℕ) → a < largest_rom → 1 ≤ C.routine a → EntryFacts C a
+  pub entry_at : (a : ℕ) → a < largest_rom → 1 ≤ C.routine a → EntryFacts C a
   unfolding entry_rule
   entry_at a h u =
       let p = (entry_rule_lem a h u).1 in
       entry_facts C a (sides (C.routine a) p.0 p.1.0) p
 
-  used_main : Holds (used C 1)
+  pub used_main : Holds (used C 1)
   unfolding used
   used_main z = let s = parts.main_side in omega arith
 
-  used_service : Holds (used C 2)
+  pub used_service : Holds (used C 2)
   unfolding used
   used_service z = let s = parts.service_side in omega arith
 
@@ -162,16 +161,16 @@ module _ (rom : ℕ) (C : Certificate) (image : List ℕ) (parts : Rule20Facts r
       let e = parts.service_start in
       (omega arith, ap C.routine (sym e) ∙ z.1.0)
 
-  special : (x : ℕ) → x < 256 → (x ≡ flags_cell) ⊎ (x ≡ sp_cell) ⊎ (x ≡ sym_cell) → C.class x ≡ 0
+  pub special : (x : ℕ) → x < 256 → (x ≡ flags_cell) ⊎ (x ≡ sp_cell) ⊎ (x ≡ sym_cell) → C.class x ≡ 0
   unfolding cell_rule
   special x h e = ((parts.cells x h).1 (inr (⊎_elim inl (λ q. inr (⊎_elim inl (λ q. inr (inl q)) q)) e))).0
 
-  in_stack : (x : ℕ) → C.floor ≤ x → x < C.top → C.class x ≡ 0
+  pub in_stack : (x : ℕ) → C.floor ≤ x → x < C.top → C.class x ≡ 0
   unfolding cell_rule
   in_stack x l u = let t = parts.stack_top in ((parts.cells x (omega arith)).1 (inl (l, u))).0
 
   -- an unmapped cell lies in no table
-  table_mapped_lem : (x : ℕ) → x < 256 → C.table x ≢ 0 → mapped_of x ≡ true
+  pub table_mapped_lem : (x : ℕ) → x < 256 → C.table x ≢ 0 → mapped_of x ≡ true
   unfolding cell_rule
   table_mapped_lem x h n =
       ⊎_elim (λ t. t) (λ f. absurd (n ((parts.cells x h).1 (inr (inr (inr (inr (λ t. false≢true (sym f ∙ t))))))).1)) (case_bool (mapped_of x))
@@ -181,55 +180,6 @@ pub row_at : (C : Certificate) (a n : ℕ) (S : Summary) (cost next : ℕ) → H
     → opening_cost C n + worst C a ≤ C.bound n
 unfolding rule27 row_rule
 row_at C a n S cost next h r u e = ⊎_elim (λ q. absurd (omega arith)) (λ q. q e) (rw r at h.1.1.1)
-
-module _ (rom : ℕ) (C : Certificate) (image : List ℕ) (fits : rom ≤ largest_rom) (ok : Accepts rom C image) where
-  parts : Rule20Facts rom C image
-  parts = rule20_facts rom C image ok.r20
-
-  room_rule : C.need 1 + 3 + C.need 2 + C.floor ≤ C.top
-  unfolding rule25 start_rule
-  room_rule =
-      let z = parts.starts 1 (omega arith) (used_main rom C image parts) in
-      let e = parts.main_start in
-      let r : C.routine 0x100 ≡ 1 = ap C.routine (sym e) ∙ z.1.0 in
-      (ok.rules 0x100 (omega arith) (λ q. omega arith)).r25.1.1.1.1.1 refl
-
-  pub global : Global C image
-  unfolding start_rule bare_rule
-  global =
-      let p = parts in
-      let m = p.starts 1 (omega arith) (used_main rom C image p) in
-      let v = p.starts 2 (omega arith) (used_service rom C image p) in
-      let s = service_start_lem rom C image p in
-      let em = p.main_start in
-      let ev = p.service_start in
-      let bm = p.main_bare in
-      let bv = p.service_bare in
-      record {
-        stack_top = p.stack_top;
-        stack_class = in_stack rom C image p;
-        flags_class = special rom C image p flags_cell (omega arith) (inl refl);
-        sp_class = special rom C image p sp_cell (omega arith) (inr (inl refl));
-        sym_class = special rom C image p sym_cell (omega arith) (inr (inr refl));
-        table_mapped = table_mapped_lem rom C image p;
-        main_side = p.main_side;
-        service_side = p.service_side;
-        main_routine = ap C.routine (sym em) ∙ m.1.0;
-        main_depth = ap C.depth (sym em) ∙ m.1.1.0;
-        main_first = ap C.first_cell (sym em) ∙ bm.0;
-        main_second = ap C.second_cell (sym em) ∙ bm.1.0;
-        main_compare = ap C.compare_cell (sym em) ∙ bm.1.1;
-        vector_in_entries = omega arith;
-        service_routine = s.1;
-        service_depth = ap C.depth (sym ev) ∙ v.1.1.0;
-        service_first = ap C.first_cell (sym ev) ∙ bv.0;
-        service_second = ap C.second_cell (sym ev) ∙ bv.1.0;
-        service_compare = ap C.compare_cell (sym ev) ∙ bv.1.1;
-        service_start = ev;
-        room = room_rule;
-        entry = entry_at rom C image p;
-        rows = λ a n h r u e. row_at C a n _ _ _ (ok.rules a (entry_in_rom rom C image p a h (omega arith)) (λ q. omega arith)).r27 r u e;
-      }
 
 -- the service's bound covers the cycles of an entry and its start's worst
 pub service_row : (C : Certificate) (image : List ℕ) → Global C image → C.entry_cost + worst C (vector_of image) ≤ C.bound 2

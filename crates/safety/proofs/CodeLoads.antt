@@ -22,7 +22,7 @@ use Rattle.safety.specs.Rules.{change_of}
 use Rattle.safety.specs.Rules.Change.{changed}
 use Rattle.safety.specs.CodeRange.{load_range}
 use Rattle.safety.specs.Verdicts.{summary_at}
-use Rattle.safety.specs.Instruction.{summary_decoded}
+use Rattle.safety.proofs.Instruction.{summary_decoded}
 
 module _ (C : Certificate) (image : List ℕ) (a : ℕ) (d : Instruction × ℕ × FlagSet) (found : decode_at image a ≡ value d) where
   abbrev action_there : Action

@@ -20,14 +20,14 @@ use Rattle.safety.specs.CodeRange.{load_range}
 use Rattle.certificate.specs.Summaries.{summary_of, flag_effect, onward}
 use Rattle.safety.specs.Statement.{Frame}
 use Rattle.safety.specs.Invariant.{Stack, Before, Does, Shaped}
-use Rattle.safety.specs.Facts.{Global, EntryFacts}
-use Rattle.safety.specs.Memory.{Input}
+use Rattle.safety.proofs.Facts.{Global, EntryFacts}
+use Rattle.safety.proofs.Memory.{Input}
 use Rattle.safety.specs.StepRules.{StepRules}
-use Rattle.safety.specs.RefineMove.{does_binary, does_modify, does_load}
-use Rattle.safety.specs.RefineStack.{does_push, does_pop}
-use Rattle.safety.specs.RefineCode.{does_load_code, does_load_code_step}
-use Rattle.safety.specs.RefineControl.{does_jump, does_carry, does_interrupts, does_idle, does_nop}
-use Rattle.safety.specs.Transfers.{binary_flow, number_flow}
+use Rattle.safety.proofs.RefineMove.{does_binary, does_modify, does_load}
+use Rattle.safety.proofs.RefineStack.{does_push, does_pop}
+use Rattle.safety.proofs.RefineCode.{does_load_code, does_load_code_step}
+use Rattle.safety.proofs.RefineControl.{does_jump, does_carry, does_interrupts, does_idle, does_nop}
+use Rattle.safety.proofs.Transfers.{binary_flow, number_flow}
 
 -- no depth above 255 is met
 pub depth_met : (C : Certificate) (loaded : Bool) (r : List ℕ) (pc : ℕ) (f : Frame) (fs : List Frame) → Stack C loaded r pc f fs → C.depth pc ≤ unloaded

@@ -27,12 +27,12 @@ use Rattle.certificate.specs.Layout.{Certificate}
 use Rattle.safety.specs.Rules.{ram_end, plain_edge, bound_at, flow_allowed, paid, rule22}
 use Rattle.safety.specs.Statement.{Opener, by_reset, by_call, by_interrupt, Frame}
 use Rattle.safety.specs.Invariant.{at, Registers, Awake, Claims, reserve, InterruptLink, Link, frame_size, Chain, Invariant}
-use Rattle.safety.specs.Facts.{Global, EntryFacts, service_row}
-use Rattle.safety.specs.Memory.{sp_registers, sp_other, sp_same, interrupts_registers, flags_all, flags_other, flags_registers, high_nibble}
-use Rattle.safety.specs.Chain.{chain_room, chain_top, chain_keep}
-use Rattle.safety.specs.Edge.{CertificateFacts, in_range, now_worst}
-use Rattle.safety.specs.Plain.{RulesOf, claims_kept, first_kept, reserve_main, entry_of_lem}
-use Rattle.safety.specs.Calls.{OnePush, push_one, AddressPushed, push_address_lem, Pushed, pushed_keeps, off_stack, ReturnRight, own_cost, end_rules, word_ram}
+use Rattle.safety.proofs.Facts.{Global, EntryFacts, service_row}
+use Rattle.safety.proofs.Memory.{sp_registers, sp_other, sp_same, interrupts_registers, flags_all, flags_other, flags_registers, high_nibble}
+use Rattle.safety.proofs.Chain.{chain_room, chain_top, chain_keep}
+use Rattle.safety.proofs.Edge.{CertificateFacts, in_range, now_worst}
+use Rattle.safety.proofs.Plain.{RulesOf, claims_kept, first_kept, reserve_main, entry_of_lem}
+use Rattle.safety.proofs.Calls.{OnePush, push_one, AddressPushed, push_address_lem, Pushed, pushed_keeps, off_stack, ReturnRight, own_cost, end_rules, word_ram}
 
 service_reserve : (C : Certificate) → reserve C 2 ≡ 0
 unfolding reserve

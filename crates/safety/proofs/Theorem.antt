@@ -8,10 +8,11 @@ use Rattle.certificate.specs.declared.Verdict.TheVariants.{Accepted}
 use Rattle.certificate.specs.Layout.{certificate_from, certificate_of}
 use Rattle.safety.specs.Verdicts.{rules_at, verdict_of}
 use Rattle.safety.specs.Statement.{Demand3}
-use Rattle.safety.specs.Accepted.{accepts, accepted_lengths}
-use Rattle.safety.specs.ByteLaws.{part_bytes}
-use Rattle.safety.specs.Edge.{certificate_facts}
-use Rattle.safety.specs.Sound.{demand_met}
+use Rattle.safety.proofs.OwnRules.{accepts}
+use Rattle.safety.proofs.Accepted.{accepted_lengths}
+use Rattle.safety.proofs.ByteLaws.{part_bytes}
+use Rattle.safety.proofs.Edge.{certificate_facts}
+use Rattle.safety.proofs.Sound.{demand_met}
 
 compare_byte : (b : List ℕ) → Bytes b → (a : ℕ) → (certificate_of b).compare_number a < 256
 unfolding certificate_of certificate_from

@@ -6,7 +6,7 @@ use Rattle.base.specs.Addresses.{sp_cell}
 use Rattle.certificate.specs.Layout.{Certificate}
 use Rattle.safety.specs.Statement.{Opener, by_reset, by_call, by_interrupt, Frame, Within}
 use Rattle.safety.specs.Invariant.{at, Registers, Link, Chain, Stack, Invariant}
-use Rattle.safety.specs.Plain.{before_of}
+use Rattle.safety.proofs.Plain.{before_of}
 
 module _ (C : Certificate) where
   -- a routine that waits is within its bound if the one that it waits for is

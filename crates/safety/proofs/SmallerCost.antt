@@ -16,10 +16,13 @@ use Rattle.safety.specs.Rules.{rule20, row_rule}
 use Rattle.safety.specs.Opened.{opened}
 use Rattle.safety.specs.Verdicts.{rules_at, verdict_of}
 use Rattle.safety.specs.Statement.{Demand3}
-use Rattle.safety.specs.Accepted.{Every, ascending, accepted_lengths, accepted_rules}
-use Rattle.safety.specs.Exact.{unbroken, accepted_when}
-use Rattle.safety.specs.Theorem.{demand3}
-use Rattle.safety.specs.EntryCost.{with_cost, byte_behind}
+use Rattle.safety.specs.Accepted.{Every}
+use Rattle.safety.proofs.OwnRules.{ascending}
+use Rattle.safety.proofs.Accepted.{accepted_lengths, accepted_rules}
+use Rattle.safety.proofs.Exact.{unbroken, accepted_when}
+use Rattle.safety.proofs.Theorem.{demand3}
+use Rattle.safety.specs.EntryCost.{with_cost}
+use Rattle.safety.proofs.EntryCost.{byte_behind}
 
 -- the second of two, from another
 behind : {A B B' : Type 0} → (B → B') → A × B → A × B'

@@ -1,6 +1,6 @@
 -- Operands under rules 23 and 24: their places are mapped, pointers stay in their tables, and what a store to one leaves.
 -- Assumes nothing.
-use Rattle.std.specs.Prelude.{◌≡◌, ◌≢◌, Bool, true, false, ◌&&◌, List, ℕ, ◌+◌, ◌%◌, ◌≤◌, ◌<◌, T, eqb, leb}
+use Rattle.std.specs.Prelude.{◌≡◌, ◌≢◌, Bool, true, false, List, ℕ, ◌+◌, ◌%◌, ◌≤◌, ◌<◌, T, eqb}
 use Rattle.std.proofs.Math.Path.{refl}
 use Rattle.std.proofs.Common.{sym, subst, ◌∙◌, ap, eqb→eq}
 use Rattle.std.proofs.Math.Logic.{⊎_elim}
@@ -10,7 +10,7 @@ use Rattle.base.specs.declared.RomAddr.{RomAddr}
 use Rattle.base.specs.Addresses.{flags_cell, sp_cell, sym_cell}
 use Rattle.base.specs.Choice.{pick}
 use Rattle.base.specs.ChoiceLaws.{pick_has}
-use Rattle.base.specs.Formula.{Formula, always, ◌&◌, Holds, of_true, eqb_yes, leb_yes}
+use Rattle.base.specs.Formula.{Formula, always, ◌&◌, Holds, of_true, eqb_yes}
 use Rattle.chip.specs.Registers.{mapped_of, load_of, store_of}
 use Rattle.chip.specs.Laws.{load_ram, mapped_ram, store_other, store_ram}
 use Rattle.chip.specs.Interrupts.{interrupts_enabled}
@@ -36,8 +36,8 @@ use Rattle.safety.specs.Rules.{ram_end, low, high, claimed, mapped, writable, re
 use Rattle.safety.specs.Rules.Change.{unchanged, changed}
 use Rattle.safety.specs.Statement.{InTable, PointersRight}
 use Rattle.safety.specs.Invariant.{at, Registers, Claims, Effect, FlagsAfter, sp_after, enabled_after, Refines, read_table, write_table, table_of, Does, Small}
-use Rattle.safety.specs.Facts.{Global, EntryFacts, Writable, is_writable}
-use Rattle.safety.specs.Memory.{Input, load_small, store_registers, flags_registers, flags_none, flags_other}
+use Rattle.safety.proofs.Facts.{Global, EntryFacts, Writable, is_writable}
+use Rattle.safety.proofs.Memory.{Input, load_small, store_registers, flags_registers, flags_none, flags_other}
 
 -- an operand that has a place
 abbrev pub HasPlace : Operand → Type 0
@@ -226,31 +226,6 @@ module _ (C : Certificate) (image : List ℕ) (gl : Global C image) (a : ℕ) (e
           subst (λ (y : ℕ). Effect (changed n) r (store_of r x.0 v) y) (sym s)
           (h lx (store_of r x.0 v) (store_ram r x.0 v lx (let y = g.size in omega arith)))
       go z l false q = store_other r x.0 v z (λ s. subst T (sym (eqb_yes s) ∙ q) tt)
-
-  pub pointed_written : (r : List ℕ) (p : RegAddr) (o x v : ℕ) → Registers r → Writable C a x → v < 256
-      → low C a p.0 + o ≤ x → x ≤ high C a p.0 + o → Written C a (Write.Pointed p o) r (store_of r x v)
-  pointed_written r p o x v g wr hv least greatest =
-      store_written r (Write.Pointed p o) x v g wr hv (λ z l. go z (leb (low C a p.0 + o) z && leb z (high C a p.0 + o)) refl)
-    where
-      go : (z : ℕ) (b : Bool) → (leb (low C a p.0 + o) z && leb z (high C a p.0 + o)) ≡ b
-          → Effect (pick b (changed Unknown) unchanged) r (store_of r x v) z
-      go z true q = tt
-      go z false q = store_other r x v z
-          (λ s.
-          let l : low C a p.0 + o ≤ z = omega arith in
-          let u : z ≤ high C a p.0 + o = omega arith in
-          let both : (leb (low C a p.0 + o) z && leb z (high C a p.0 + o)) ≡ true = rw (leb_yes l, leb_yes u) refl in
-          subst T (sym both ∙ q) tt)
-
-  -- v is stored at the place of d, of which the summary says n
-  pub place_written : (r rec : List ℕ) → Registers r → Claims C a r → (d : Operand) (n : NewValue) (v : ℕ) → HasPlace d
-      → Allowed C a (writable_place C a) d → v < 256 → Gives d n r v → Written C a (write_to d n) r (store_of r (place_of r rec d).addr.0 v)
-  unfolding place_of
-  place_written r rec g c (Register x) n v s h hv k = register_written r x n v g (place_writable r rec c (Register x) s h) hv k
-  place_written r rec g c (Indirect p o) n v s h hv k =
-      let t = reached r rec c p.0 o (writable_place C a) h in
-      pointed_written r p o (pointed_at r rec p.0 o) v g (place_writable r rec c (Indirect p o) s h) hv t.least t.greatest
-  place_written r rec g c (Immediate n) m v s h hv k = absurd s
 
   -- after its write an instruction changes no RAM
   pub refines_beyond : (S : Summary) (r r' r'' : List ℕ) → Written C a S.write r r' → Registers r'' → ((x : ℕ) → x < ram_end → at r'' x ≡ at r' x)

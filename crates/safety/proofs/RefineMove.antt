@@ -41,11 +41,12 @@ use Rattle.certificate.specs.Summaries.{write_to, reading, moving, binary_value,
 use Rattle.safety.specs.Rules.{rule23, rule24}
 use Rattle.safety.specs.Statement.{InTable}
 use Rattle.safety.specs.Invariant.{at, Registers, FlagsAfter, Refines, Before, read_table, write_table, table_of, Does, Small, Shaped}
-use Rattle.safety.specs.Facts.{Global, EntryFacts}
-use Rattle.safety.specs.Memory.{Input, load_small, store_registers, flags_all}
+use Rattle.safety.proofs.Facts.{Global, EntryFacts}
+use Rattle.safety.proofs.Memory.{Input, load_small, store_registers, flags_all}
 use Rattle.safety.specs.StepRules.{StepRules}
-use Rattle.safety.specs.RefineOperands.{HasPlace, Allowed, any_place, writable_place, Gives, Written, may_read, may_write, fetch_ram, fetch_byte, place_mapped, fetch_mapped}
-use Rattle.safety.specs.RefineOperands.{in_read_table, in_write_table, nothing_written, place_written, refines_beyond, refines_written, refines_flags, does_onward, flags_kept, flags_set}
+use Rattle.safety.proofs.RefineOperands.{HasPlace, Allowed, any_place, writable_place, Gives, Written, may_read, may_write, fetch_ram, fetch_byte, place_mapped, fetch_mapped}
+use Rattle.safety.proofs.RefineOperands.{in_read_table, in_write_table, nothing_written, refines_beyond, refines_written, refines_flags, does_onward, flags_kept, flags_set}
+use Rattle.safety.proofs.PlaceWritten.{place_written}
 
 -- CP with a number compares the byte of its cell
 binary_flags_lem : (r rec : List ℕ) (ns : FlagSet) (op : Alu) (x : RegAddr) (s : Operand) (c : Bool) → Registers r → (op ≡ Cp → ns ≡ all_flags)

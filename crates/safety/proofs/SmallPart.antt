@@ -9,9 +9,10 @@ use Rattle.certificate.specs.declared.Verdict.TheVariants.{Accepted, Refused}
 use Rattle.certificate.specs.Layout.{Certificate, certificate_of}
 use Rattle.safety.specs.Rules.{empty_entry, address_rule, rule20}
 use Rattle.safety.specs.Verdicts.{rules_at, verdict_by, verdict_of}
-use Rattle.safety.specs.Accepted.{accepts, accepted_lengths}
-use Rattle.safety.specs.Exact.{twenty_when}
-use Rattle.safety.specs.Facts.{rule20_facts, entry_in_rom}
+use Rattle.safety.proofs.OwnRules.{accepts}
+use Rattle.safety.proofs.Accepted.{accepted_lengths}
+use Rattle.safety.proofs.Exact.{twenty_when}
+use Rattle.safety.proofs.Facts.{rule20_facts, entry_in_rom}
 
 -- where 20 holds, it "allows no certificate entry past that": the bytes of such an address are all 0
 module _ (rom : ℕ) (C : Certificate) (image : List ℕ) (h : Holds (rule20 C rom image)) (a : ℕ) (past : rom ≤ a) (below : a < largest_rom) where

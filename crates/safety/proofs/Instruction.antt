@@ -33,18 +33,19 @@ use Rattle.safety.specs.Verdicts.{summary_from, size_from, summary_at, next_at, 
 use Rattle.safety.specs.Statement.{Frame, Open, transfer_of, loads_top, charge, outward, spends, closing, PointersRight, ReturnsRight, Within, transferred, Opener, by_call, by_interrupt}
 use Rattle.safety.specs.Invariant.{at, Awake, Invariant, Shaped, table_of, FlagsAfter}
 use Rattle.safety.specs.Accepted.{Accepts, RulesHold}
-use Rattle.safety.specs.Facts.{Global, global}
-use Rattle.safety.specs.Memory.{Input}
+use Rattle.safety.proofs.Facts.{Global}
+use Rattle.safety.proofs.GlobalFacts.{global}
+use Rattle.safety.proofs.Memory.{Input}
 use Rattle.safety.specs.StepRules.{StepRules}
-use Rattle.safety.specs.Transfers.{step_stays, is_call, is_return, is_interrupt_return, loaded_after, loads_top_lem}
-use Rattle.safety.specs.Refine.{refine, depth_met}
-use Rattle.safety.specs.RefineOperands.{flags_kept}
-use Rattle.safety.specs.Coherent.{coherent}
-use Rattle.safety.specs.Edge.{CertificateFacts}
-use Rattle.safety.specs.Plain.{RulesOf, rules_of, entry_of_lem, before_of, inv_step}
-use Rattle.safety.specs.Bounds.{within_of}
-use Rattle.safety.specs.Calls.{ReturnRight, called_frame, inv_call, inv_return}
-use Rattle.safety.specs.Interrupts.{inv_interrupt_return}
+use Rattle.safety.proofs.Transfers.{step_stays, is_call, is_return, is_interrupt_return, loaded_after, loads_top_lem}
+use Rattle.safety.proofs.Refine.{refine, depth_met}
+use Rattle.safety.proofs.RefineOperands.{flags_kept}
+use Rattle.safety.proofs.Coherent.{coherent}
+use Rattle.safety.proofs.Edge.{CertificateFacts}
+use Rattle.safety.proofs.Plain.{RulesOf, rules_of, entry_of_lem, before_of, inv_step}
+use Rattle.safety.proofs.Bounds.{within_of}
+use Rattle.safety.proofs.Calls.{ReturnRight, called_frame, inv_call, inv_return}
+use Rattle.safety.proofs.Interrupts.{inv_interrupt_return}
 
 -- the summary at an address is that of the instruction that is decoded there
 pub summary_decoded : (C : Certificate) (image : List ℕ) (a : ℕ) (d : Instruction × ℕ × FlagSet) → decode_at image a ≡ value d

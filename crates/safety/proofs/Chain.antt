@@ -6,7 +6,7 @@ use Rattle.certificate.specs.Layout.{Certificate}
 use Rattle.safety.specs.Rules.{ram_end}
 use Rattle.safety.specs.Statement.{Opener, by_reset, by_call, by_interrupt, Frame, spends, outward}
 use Rattle.safety.specs.Invariant.{at, Agree, AgreeMain, Room, Link, frame_size, Chain}
-use Rattle.safety.specs.Facts.{Global}
+use Rattle.safety.proofs.Facts.{Global}
 
 -- a step of routine m on a side keeps the stack from b on, and the cells of class 1 and 2 that it may not write
 pub record Keeps (C : Certificate) (side m b : ℕ) (r r' : List ℕ) : Type 0 where

@@ -1,34 +1,35 @@
 -- Rules 26 and 27 over one edge: claims, compare and bound at the successor, from the summary alone; and the cells that no write reaches.
 -- Assumes nothing.
 use mathlib.Core.Path.{◌≡◌, refl, sym, ◌∙◌, ap}
-use Rattle.std.specs.Prelude.{◌≢◌, ◌⊎◌, Bool, ◌&&◌, ◌||◌, List, [], ◌∷◌, ℕ, ◌+◌, ◌-◌, ◌*◌, ◌≤◌, ◌<◌, ltb}
-use Rattle.std.proofs.Common.{inl, inr, arith, mul-le-mul_left, ltb→lt}
+use Rattle.std.specs.Prelude.{◌≢◌, ◌⊎◌, Bool, ◌&&◌, ◌||◌, List, ℕ, ◌+◌, ◌-◌, ◌≤◌, ◌<◌, ltb}
+use Rattle.std.proofs.Common.{inl, inr, arith, ltb→lt}
 use Rattle.std.proofs.Math.Logic.{⊎_elim}
 use Rattle.std.proofs.Math.Bool.{true, false, not}
 use Rattle.std.proofs.Math.Dec.{T, leb, eqb, eqb→eq}
 use Rattle.base.specs.declared.RegAddr.{RegAddr}
 use Rattle.base.specs.Addresses.{flags_cell}
-use Rattle.base.specs.Choice.{pick, choose}
-use Rattle.base.specs.ChoiceLaws.{pick_has, Each}
-use Rattle.base.specs.Formula.{Formula, Holds, decide, sound, decide_true, decide_false, always, le, lt, eq, neg, ◌&◌, ◌‖◌, same?, le?, of_true, eqb_yes, eqb_no, ltb_yes, ltb_no}
+use Rattle.base.specs.Choice.{pick}
+use Rattle.base.specs.ChoiceLaws.{pick_has}
+use Rattle.base.specs.Formula.{Holds, sound, le, eq, ◌&◌, ◌‖◌, same?, le?, of_true, eqb_yes, eqb_no, ltb_yes, ltb_no}
 use Rattle.base.specs.Lengths.{largest_rom}
 use Rattle.alu.specs.Flags.{condition}
 use Rattle.alu.specs.Operations.{compare_flags}
-use Rattle.alu.specs.Laws.{compare_lt, compare_ge, compare_eq, compare_ne, compare_le, compare_gt}
 use Rattle.certificate.specs.declared.NewValue.{NewValue}
 use Rattle.certificate.specs.declared.NewValue.TheVariants.{Number, OneMore, OneLess, Within, CopyOf, Unknown}
 use Rattle.certificate.specs.declared.Write.{Write}
 use Rattle.certificate.specs.declared.FlagEffect.{FlagEffect}
 use Rattle.certificate.specs.declared.FlagEffect.TheVariants.{Kept, Changed, Compared}
 use Rattle.certificate.specs.Layout.{Certificate}
-use Rattle.safety.specs.Rules.{no_cell, ram_end, Edge, on_edge, told, meets, low, high, claimed, bound_at, worst, claim_rule, empty_entry, entry_rule, address_rule}
+use Rattle.safety.specs.Rules.{no_cell, ram_end, Edge, low, high, claimed, bound_at, worst, claim_rule, empty_entry, entry_rule, address_rule}
 use Rattle.safety.specs.Rules.{start_rule, writable, direct_write, reach, pointed_write, Change, change_of, narrowed, left, feasible, follows, claim_follows}
 use Rattle.safety.specs.Rules.{claims_follow, is_unchanged, flags_follow, compare_follows, first_value, same_first, bound_along, bound_after, paid}
 use Rattle.safety.specs.Rules.Change.{unchanged, changed}
-use Rattle.safety.specs.CodeRangeLaws.{unclaimed}
+use Rattle.safety.proofs.CodeRangeLaws.{unclaimed}
 use Rattle.safety.specs.Invariant.{at, Registers, Claims, CompareHolds, first_now, bound_now, Effect, FlagsAfter}
 use Rattle.safety.specs.Accepted.{Accepts}
-use Rattle.safety.specs.Facts.{EntryFacts, is_writable, rule20_facts}
+use Rattle.safety.proofs.Facts.{EntryFacts, is_writable, rule20_facts}
+use Rattle.safety.proofs.BoundWorst.{bound_worst}
+use Rattle.safety.proofs.MeetsNow.{meets_now}
 
 -- What acceptance and the bytes give beside `EntryFacts` --
 
@@ -100,26 +101,6 @@ pub first_out : (C : Certificate) (t : ℕ) (r : List ℕ) → C.first_cell t �
 unfolding first_now
 first_out C t r h = let z : ram_end ≤ C.first_cell t = omega arith in rw (ltb_no z) refl
 
--- the bound is at most its worst over the claim
-pub bound_worst : (C : Certificate) (t c : ℕ) → EntryFacts C t → C.first_low t ≤ c → c ≤ C.first_high t → bound_at C t c ≤ worst C t
-unfolding bound_at worst
-bound_worst C t c e h k = go (eqb (C.direction t) 0) refl (eqb (C.direction t) 1) (eqb (C.direction t) 2)
-  where
-    grows : (n : ℕ) → n ≤ C.first_high t - C.first_low t → C.slope t * n ≤ C.slope t * (C.first_high t - C.first_low t)
-    grows n l = mul-le-mul_left {m = n} {n = C.first_high t - C.first_low t} (C.slope t) l
-
-    go : (z : Bool) → eqb (C.direction t) 0 ≡ z → (b d : Bool)
-        → C.base t + C.slope t * pick b (C.first_high t - c) (pick d (c - C.first_low t) 0)
-        ≤ C.base t + pick z 0 (C.slope t * (C.first_high t - C.first_low t))
-    go true q b d =
-        let s = e.still (eqb→eq (C.direction t) 0 (of_true (eqb (C.direction t) 0) q)) in
-        let n : ℕ = pick b (C.first_high t - c) (pick d (c - C.first_low t) 0) in
-        let y : C.slope t * n ≡ 0 * n = ap (λ (m : ℕ). m * n) s in
-        omega arith
-    go false q true d = let z = grows (C.first_high t - c) (omega arith) in omega arith
-    go false q false true = let z = grows (c - C.first_low t) (omega arith) in omega arith
-    go false q false false = let z = grows 0 (omega arith) in omega arith
-
 -- the first cell's value lies in its claim
 first_range : (C : Certificate) (t : ℕ) (r : List ℕ) → EntryFacts C t → (C.first_cell t ≡ no_cell → C.first_low t ≡ 0) → Claims C t r
     → (C.first_low t ≤ first_now C t r) × (first_now C t r ≤ C.first_high t)
@@ -138,39 +119,6 @@ pub now_worst : (C : Certificate) → CertificateFacts C → (t : ℕ) (r : List
 now_worst C more t r ht e cl =
     let c = first_range C t r e (more.absent t ht) cl in
     bound_worst C t (first_now C t r) e c.0 c.1
-
--- Compare --
-
-on_edge_lem : (p : Formula) (o : Bool) → o ≡ decide p → Holds (on_edge o p)
-on_edge_lem p true e = decide_true p e refl
-on_edge_lem p false e = decide_false p e refl
-
--- where each row holds if the number is the row's, what the number chooses holds
-choose_holds : (n : ℕ) (rows : List (ℕ × Formula)) → Each (λ (k : ℕ) (p : Formula). n ≡ k → Holds p) rows → Holds (choose n rows always)
-choose_holds n [] h = tt
-choose_holds n (e ∷ rows) h =
-    pick_has Holds (eqb n e.0) e.1 (choose n rows always) (λ q. h.0 (eqb→eq n e.0 (of_true (eqb n e.0) q)))
-    (λ _. choose_holds n rows h.1)
-
--- of the flags that a compare leaves, each condition tells what the rules take from it
-pub meets_now : (n v k f : ℕ) → f ≡ compare_flags v k → v < 256 → k < 256 → Holds (meets n (condition n f) v k)
-unfolding meets
-meets_now n v k f e hv hk =
-    let o = condition n f in
-    let is : (m : ℕ) → n ≡ m → o ≡ condition m (compare_flags v k) = λ m q. rw (q, e) refl in
-    choose_holds n (told o v k) (
-      λ q. on_edge_lem (lt v k) o (is 7 q ∙ compare_lt v k),
-      (
-        λ q. on_edge_lem (le k v) o (is 15 q ∙ compare_ge v k),
-        (
-          λ q. on_edge_lem (eq v k) o (is 6 q ∙ compare_eq v k hv hk),
-          (
-            λ q. on_edge_lem (neg (eq v k)) o (is 14 q ∙ compare_ne v k hv hk),
-            (λ q. on_edge_lem (le v k) o (is 3 q ∙ compare_le v k hv hk), (λ q. on_edge_lem (lt k v) o (is 11 q ∙ compare_gt v k hv hk), tt)),
-          ),
-        ),
-      ),
-    )
 
 -- A copied register is no absent cell: rule 23 asks that it is mapped --
 

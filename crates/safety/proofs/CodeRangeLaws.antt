@@ -20,16 +20,7 @@ use Rattle.certificate.specs.Layout.{Certificate}
 use Rattle.certificate.specs.Summaries.{range}
 use Rattle.safety.specs.Rules.{ram_end, low, high, claimed, code_in_rom}
 use Rattle.safety.specs.CodeRange.{widened, no_byte, rows_from, reached_bytes, load_range}
-
--- an address that LDC at a reaches from a pair: 256 × h + l + offset, h and l over the ranges of both halves
-pub record PairReaches (C : Certificate) (a p up down t : ℕ) : Type 0 where
-  pub upper : ℕ
-  pub lower : ℕ
-  pub upper_low : low C a p ≤ upper
-  pub upper_high : upper ≤ high C a p
-  pub lower_low : low C a (p + 1) ≤ lower
-  pub lower_high : lower ≤ high C a (p + 1)
-  pub is : t + down ≡ upper * 256 + lower + up
+use Rattle.safety.specs.CodeReach.{Reaches, SetInRom, ReachedByte}
 
 module _ (C : Certificate) (a : ℕ) where
   -- a cell without a claim counts as 0 to 255
@@ -37,21 +28,9 @@ module _ (C : Certificate) (a : ℕ) where
   unfolding low high
   unclaimed x n m = rw (eqb_no n, eqb_no m) (refl, refl)
 
-  -- the addresses that the instruction at a reaches
-  abbrev pub Reaches : CodeAccess → ℕ → Type 0
-  Reaches CodeAccess.Nothing t = ⊥
-  Reaches (CodeAccess.Direct d) t = t ≡ d.0
-  Reaches (CodeAccess.Pair p up down) t = PairReaches C a p.0 up down t
-
 module _ (C : Certificate) (rom a : ℕ) where
-  -- every sum of values of both halves and the offset is an address of ROM, none of them negative
-  abbrev pub SetInRom : ℕ → ℕ → ℕ → Type 0
-  SetInRom p up down =
-      (h l : ℕ) → low C a p ≤ h → h ≤ high C a p → low C a (p + 1) ≤ l → l ≤ high C a (p + 1)
-      → (down ≤ h * 256 + l + up) × (h * 256 + l + up < rom + down)
-
   -- where 24 holds, the whole set lies in ROM
-  pub set_in_rom : (p : RegAddr) (up down : ℕ) → Holds (code_in_rom C rom a (CodeAccess.Pair p up down)) → SetInRom p.0 up down
+  pub set_in_rom : (p : RegAddr) (up down : ℕ) → Holds (code_in_rom C rom a (CodeAccess.Pair p up down)) → SetInRom C rom a p.0 up down
   set_in_rom p up down h u v e f g i = (omega arith, omega arith)
 
   -- so every address that is reached does
@@ -62,7 +41,7 @@ module _ (C : Certificate) (rom a : ℕ) where
 
   -- 24 asks no more: it holds where the whole set lies in ROM. The high half is then claimed, since 255 × 256 does not lie there
   pub whole_set_in_rom : rom ≤ largest_rom → (p : RegAddr) (up down : ℕ) → p.0 < ram_end → down < 256
-      → low C a p.0 ≤ high C a p.0 → low C a (p.0 + 1) ≤ high C a (p.0 + 1) → SetInRom p.0 up down
+      → low C a p.0 ≤ high C a p.0 → low C a (p.0 + 1) ≤ high C a (p.0 + 1) → SetInRom C rom a p.0 up down
       → Holds (code_in_rom C rom a (CodeAccess.Pair p up down))
   unfolding claimed
   whole_set_in_rom fits p up down r d u v f =
@@ -140,10 +119,6 @@ row_bytes P image (suc k) t n f {b} m =
     (Memᴰ.append_cases (take n (drop t image)) m)
 
 module _ (C : Certificate) (image : List ℕ) (a : ℕ) where
-  -- a byte that is reached
-  abbrev pub ReachedByte : CodeAccess → ℕ → Type 0
-  ReachedByte c v = (s : ℕ) × (Reaches C a c s × (get_or image s 0 ≡ v))
-
   -- the list of which `load_range` is the range holds, where 24 holds, no byte that is not reached: what holds of each that is holds of all
   each_reached : (P : ℕ → Type 0) (rom : ℕ) (c : CodeAccess) → ((s : ℕ) → (Holds (code_in_rom C rom a c) → Reaches C a c s) → P (get_or image s 0))
       → {b : ℕ} → Memᴰ b (reached_bytes C image a c) → P b

@@ -1,14 +1,13 @@
 -- The invariant over CALL and RET.
 -- Assumes nothing.
-use Rattle.std.specs.Prelude.{◌≡◌, ◌≢◌, Bool, ◌&&◌, not, List, [], ◌∷◌, ℕ, ◌+◌, ◌*◌, ◌/◌, ◌%◌, ◌≤◌, ◌<◌, T, eqb, ltb}
+use Rattle.std.specs.Prelude.{◌≡◌, ◌≢◌, Bool, List, [], ◌∷◌, ℕ, ◌+◌, ◌*◌, ◌/◌, ◌%◌, ◌≤◌, ◌<◌}
 use Rattle.std.proofs.Math.Path.{refl, sym, subst, ap}
-use Rattle.std.proofs.Common.{◌∙◌, inl, ⊎_elim, eqb→eq, ltb→lt}
+use Rattle.std.proofs.Common.{◌∙◌, inl, ⊎_elim}
 use Rattle.std.proofs.Math.Bool.{true, false}
 use native.Mathlib.Omega.{arith}
 use Rattle.base.specs.declared.RomAddr.{RomAddr}
 use Rattle.base.specs.Addresses.{flags_cell, sp_cell, sym_cell}
-use Rattle.base.specs.Choice.{pick}
-use Rattle.base.specs.Formula.{Holds, eq, ◌&◌, same?, le?, of_true, eqb_yes}
+use Rattle.base.specs.Formula.{Holds, eq, ◌&◌, same?, le?}
 use Rattle.base.specs.Lengths.{largest_rom}
 use Rattle.isa.specs.declared.FlagSet.{FlagSet}
 use Rattle.chip.specs.Registers.{store_of}
@@ -24,16 +23,17 @@ use Rattle.certificate.specs.declared.Flow.{Flow}
 use Rattle.certificate.specs.declared.Flow.TheVariants.{Call, Return}
 use Rattle.certificate.specs.declared.Summary.{Summary}
 use Rattle.certificate.specs.Layout.{Certificate}
-use Rattle.safety.specs.Rules.{no_cell, ram_end, unloaded, plain_edge, Edge, worst, bound_at, flow_allowed, calls, ends, successor, call_target}
-use Rattle.safety.specs.Rules.{call_depth, claims_follow, survives, call26, same_first, bound_after_call, paid, rule21, rule22, rule25, rule26, rule27}
+use Rattle.safety.specs.Rules.{no_cell, ram_end, plain_edge, Edge, flow_allowed, calls, ends, successor, call_target}
+use Rattle.safety.specs.Rules.{call_depth, claims_follow, survives, call26, bound_after_call, paid, rule21, rule22, rule25, rule26, rule27}
 use Rattle.safety.specs.Statement.{Opener, by_reset, by_call, by_interrupt, Frame, spends, outward}
-use Rattle.safety.specs.Coherent.{nothing_compares}
-use Rattle.safety.specs.Invariant.{at, Registers, Awake, Claims, first_now, bound_now, reserve, CallLink, Link, frame_size, Chain, Invariant, FlagsAfter}
-use Rattle.safety.specs.Facts.{Global, EntryFacts}
-use Rattle.safety.specs.Memory.{store_registers, sp_registers, sp_other, sp_same}
-use Rattle.safety.specs.Chain.{Keeps, chain_room, chain_top, chain_cost, chain_keep}
-use Rattle.safety.specs.Edge.{CertificateFacts, taken, in_range, first_in, now_worst, paid_now, claims_follow_lem, compare_follows_lem}
-use Rattle.safety.specs.Plain.{RulesOf, entry_of_lem, before_of, chain_step}
+use Rattle.safety.proofs.Coherent.{nothing_compares}
+use Rattle.safety.specs.Invariant.{at, Registers, Awake, Claims, reserve, CallLink, Link, frame_size, Chain, Invariant, FlagsAfter}
+use Rattle.safety.proofs.Facts.{Global, EntryFacts}
+use Rattle.safety.proofs.Memory.{store_registers, sp_registers, sp_other, sp_same}
+use Rattle.safety.proofs.Chain.{Keeps, chain_room, chain_top, chain_cost, chain_keep}
+use Rattle.safety.proofs.Edge.{CertificateFacts, taken, in_range, now_worst, paid_now, claims_follow_lem, compare_follows_lem}
+use Rattle.safety.proofs.Plain.{RulesOf, entry_of_lem, before_of, chain_step}
+use Rattle.safety.proofs.CallBound.{bound_after_call_lem}
 
 -- Pushes --
 
@@ -139,34 +139,6 @@ survives_now C a k r r'' regs cl x l h hx same m =
     let s = same z in
     (omega arith, omega arith))
     (le? k (C.limit x))
-
--- the bound behind a CALL of the routine at t
-bound_after_call_lem : (C : Certificate) → CertificateFacts C → (a t next : ℕ) (r r'' : List ℕ) → next < largest_rom → EntryFacts C a → EntryFacts C next
-    → Claims C next r'' → (C.first_cell a < ram_end → C.limit (C.first_cell a) < C.routine t → at r'' (C.first_cell a) ≡ at r (C.first_cell a))
-    → C.bound (C.routine t) + bound_now C next r'' ≤ bound_after_call C a next t (first_now C a r)
-unfolding bound_after_call same_first
-bound_after_call_lem C more a t next r r'' hn e en cl same =
-    go (eqb (C.first_cell next) (C.first_cell a)) refl (eqb (C.first_cell a) no_cell) refl (ltb (C.limit (C.first_cell a)) (C.routine t)) refl
-  where
-    most : C.bound (C.routine t) + bound_now C next r'' ≤ C.bound (C.routine t) + worst C next
-    most = let z = now_worst C more next r'' hn en cl in omega arith
-
-    go : (b : Bool) → eqb (C.first_cell next) (C.first_cell a) ≡ b → (d : Bool) → eqb (C.first_cell a) no_cell ≡ d
-        → (g : Bool) → ltb (C.limit (C.first_cell a)) (C.routine t) ≡ g
-        → C.bound (C.routine t) + bound_now C next r''
-        ≤ C.bound (C.routine t) + pick (b && not d && g) (bound_at C next (first_now C a r)) (worst C next)
-    go false e1 d e2 g e3 = most
-    go true e1 true e2 g e3 = most
-    go true e1 false e2 false e3 = most
-    go true e1 false e2 true e3 =
-        let q = eqb→eq (C.first_cell next) (C.first_cell a) (of_true (eqb (C.first_cell next) (C.first_cell a)) e1) in
-        let l = ltb→lt (C.limit (C.first_cell a)) (C.routine t) (of_true (ltb (C.limit (C.first_cell a)) (C.routine t)) e3) in
-        ⊎_elim
-        (λ (h : C.first_cell a < ram_end).
-        let z : first_now C next r'' ≡ first_now C a r = first_in C next r'' (omega arith) ∙ ap (at r'') q ∙ same h l ∙ sym (first_in C a r h) in
-        let y : bound_now C next r'' ≡ bound_at C next (first_now C a r) = ap (bound_at C next) z in
-        omega arith)
-        (λ (h : C.first_cell a ≡ no_cell). absurd (subst T (sym (eqb_yes h) ∙ e2) tt)) e.first_cell
 
 -- the frame that a CALL of t opens
 abbrev pub called_frame : Certificate → ℕ → ℕ → Frame

@@ -27,10 +27,11 @@ use Rattle.certificate.specs.Layout.{Certificate}
 use Rattle.safety.specs.Rules.{unloaded, rule23, rule24}
 use Rattle.certificate.specs.Summaries.{summary_of, flag_effect, moving, write_to}
 use Rattle.safety.specs.Invariant.{at, Registers, Claims, Before, Does, Shaped, table_of}
-use Rattle.safety.specs.Facts.{Global, EntryFacts}
-use Rattle.safety.specs.Memory.{Input, load_small, store_registers, sp_registers, sp_other, sp_same}
-use Rattle.safety.specs.RefineOperands.{HasPlace, Gives, Written, any_place, writable_place, may_read, may_write, fetch_byte, fetch_mapped}
-use Rattle.safety.specs.RefineOperands.{place_mapped, place_written, in_read_table, in_write_table, refines_beyond, does_onward, flags_kept}
+use Rattle.safety.proofs.Facts.{Global, EntryFacts}
+use Rattle.safety.proofs.Memory.{Input, load_small, store_registers, sp_registers, sp_other, sp_same}
+use Rattle.safety.proofs.RefineOperands.{HasPlace, Gives, Written, any_place, writable_place, may_read, may_write, fetch_byte, fetch_mapped}
+use Rattle.safety.proofs.RefineOperands.{place_mapped, in_read_table, in_write_table, refines_beyond, does_onward, flags_kept}
+use Rattle.safety.proofs.PlaceWritten.{place_written}
 use Rattle.safety.specs.StepRules.{StepRules}
 
 -- of a byte of which nothing is known

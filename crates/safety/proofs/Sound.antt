@@ -42,15 +42,16 @@ use Rattle.safety.specs.Statement.{setup_for, stepped, acted_state, after_step, 
 use Rattle.safety.specs.Statement.{from_reset, Demand3, by_reset}
 use Rattle.safety.specs.Invariant.{at, Registers, Awake, Invariant, table_of}
 use Rattle.safety.specs.Accepted.{Accepts, RulesHold}
-use Rattle.safety.specs.Facts.{Global, rule20_facts, entry_in_rom, global}
-use Rattle.safety.specs.Memory.{Input}
-use Rattle.safety.specs.DecodedShape.{decoded_shaped}
-use Rattle.safety.specs.Edge.{CertificateFacts, in_range}
-use Rattle.safety.specs.Plain.{inv_request}
-use Rattle.safety.specs.Bounds.{within_of, stack_of}
-use Rattle.safety.specs.Runs.{record_bytes, record_length_lem, walk_run}
-use Rattle.safety.specs.Interrupts.{service_frame, inv_enter}
-use Rattle.safety.specs.Instruction.{rules_decoded, table_decoded, decoded_at, Right, right}
+use Rattle.safety.proofs.Facts.{Global, rule20_facts, entry_in_rom}
+use Rattle.safety.proofs.GlobalFacts.{global}
+use Rattle.safety.proofs.Memory.{Input}
+use Rattle.safety.proofs.DecodedShape.{decoded_shaped}
+use Rattle.safety.proofs.Edge.{CertificateFacts, in_range}
+use Rattle.safety.proofs.Plain.{inv_request}
+use Rattle.safety.proofs.Bounds.{within_of, stack_of}
+use Rattle.safety.proofs.Runs.{record_bytes, record_length_lem, walk_run}
+use Rattle.safety.proofs.Interrupts.{service_frame, inv_enter}
+use Rattle.safety.proofs.Instruction.{rules_decoded, table_decoded, decoded_at, Right, right}
 
 -- an entry is due only where SYM.2 is 1
 first_true : (b c : Bool) → (b && c) ≡ true → b ≡ true

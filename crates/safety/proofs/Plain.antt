@@ -28,11 +28,11 @@ use Rattle.safety.specs.Verdicts.{summary_at, next_at, cost_at}
 use Rattle.safety.specs.Statement.{Frame, spends, outward}
 use Rattle.safety.specs.Invariant.{at, Registers, Claims, first_now, reserve, Chain, Stack, Invariant, Refines, Before, sp_after, enabled_after}
 use Rattle.safety.specs.Accepted.{RulesHold}
-use Rattle.safety.specs.Facts.{Global, EntryFacts}
-use Rattle.safety.specs.Chain.{Keeps, chain_room, chain_top, chain_cost, chain_keep}
-use Rattle.safety.specs.Coherent.{Coherent, reads_copies}
-use Rattle.safety.specs.Transfers.{loaded_after}
-use Rattle.safety.specs.Edge.{CertificateFacts, taken, free_range, first_in, first_out, feasible_now, claims_follow_lem, compare_follows_lem, cost_follows, kept_effect, kept_cell}
+use Rattle.safety.proofs.Facts.{Global, EntryFacts}
+use Rattle.safety.proofs.Chain.{Keeps, chain_room, chain_top, chain_cost, chain_keep}
+use Rattle.safety.proofs.Coherent.{Coherent, reads_copies}
+use Rattle.safety.proofs.Transfers.{loaded_after}
+use Rattle.safety.proofs.Edge.{CertificateFacts, taken, free_range, first_in, first_out, feasible_now, claims_follow_lem, compare_follows_lem, cost_follows, kept_effect, kept_cell}
 
 -- Rules 21 to 27 for a summary at an address, the address behind it and its cost --
 

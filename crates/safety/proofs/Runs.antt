@@ -11,7 +11,7 @@ use Rattle.semantics.specs.declared.State.{State}
 use Rattle.semantics.specs.declared.Ran.{Ran}
 use Rattle.semantics.specs.Run.{record_at, run_from}
 use Rattle.certificate.specs.Layout.{Certificate}
-use Rattle.safety.specs.ByteLaws.{take_bytes, drop_bytes}
+use Rattle.safety.proofs.ByteLaws.{take_bytes, drop_bytes}
 use Rattle.safety.specs.Statement.{Event, Monitored, setup_for, stepped, acted_state, after_step, monitor_step, event_of, Walk}
 
 pub record_bytes : (schedule : List ℕ) → ((i : ℕ) → get_or schedule i 0 < 256) → (k i : ℕ) → get_or (record_at schedule k) i 0 < 256

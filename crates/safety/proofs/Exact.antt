@@ -16,9 +16,12 @@ use Rattle.certificate.specs.declared.Verdict.{Verdict}
 use Rattle.certificate.specs.declared.Verdict.TheVariants.{Accepted, Refused}
 use Rattle.certificate.specs.Layout.{Certificate, certificate_of}
 use Rattle.safety.specs.Rules.{rule20}
-use Rattle.safety.specs.Accepted.{Every, Ascends, ascending, number_every, Scanned, scanned}
+use Rattle.safety.specs.Accepted.{Every, Ascends}
+use Rattle.safety.proofs.OwnRules.{ascending}
+use Rattle.safety.proofs.Scanned.{number_every, Scanned, scanned}
 use Rattle.safety.specs.Verdicts.{Rule, rules_with, rules_at, first_broken, number_by, verdict_on_by, verdict_by, number_at, scan, verdict_on, verdict_of}
 use Rattle.safety.specs.Verdicts.{Breaks, rules_on_whole, Broken, Reports, Exact, lengths_right}
+use Rattle.safety.specs.Verdicts.{CheckNumber}
 
 -- The lowest broken rule of a list --
 
@@ -184,10 +187,6 @@ module _ (rom : ℕ) (image cert : List ℕ) where
       → verdict_of rom image cert ≡ Refused 20 (rom_addr 0)
   unfolding verdict_by verdict_on_by
   twenty_when full whole n = rw (eqb_yes full, whole, sym (decide_no (rule20 C rom image) n), verdict_on_by)
-
--- a number by which a certificate is refused
-abbrev pub CheckNumber : ℕ → Type 0
-CheckNumber n = (n ≡ 7) ⊎ ((20 ≤ n) × (n ≤ 27))
 
 rule_numbers : (rom : ℕ) (C : Certificate) (image : List ℕ) (a : ℕ) → Numbers CheckNumber (rules_at rom C image a)
 unfolding rules_with
