@@ -47,7 +47,7 @@ use Rattle.machine.specs.CoveredLaws.{covered_number, covered_length, covered_re
 use Rattle.machine.specs.Count.{completed_steps, state_behind, total_cost, Counted, run_state, run_counted}
 use Rattle.hex_line.specs.declared.Reader.{Reader}
 use Rattle.hex_line.specs.Line.{read_line, line_buffer}
-use Rattle.hex_line.specs.Refusals.{line_number, line_unchanged, length_line_buffer}
+use Rattle.hex_line.proofs.Refusals.{line_number, line_unchanged, length_line_buffer}
 use Rattle.hex_text.specs.declared.Stream.{Stream}
 use Rattle.hex_text.specs.Text.{text_answer, text_buffer}
 use Rattle.hex_text.specs.Stream.{feed_buffer, finish_answer}
@@ -56,7 +56,7 @@ use Rattle.hex_write.specs.ImageText.{text_length, write_answer, write_buffer}
 use Rattle.hex_write.specs.Refusals.{write_number, write_unchanged, length_write_buffer}
 use Rattle.hex_write.specs.ReadBack.{ReadsBack, written_whole, write_reads_back}
 use Rattle.hex_upper.specs.Upper.{upper_answer, upper_line}
-use Rattle.hex_upper.specs.UpperTheorems.{upper_number, upper_unchanged, upper_length}
+use Rattle.hex_upper.proofs.UpperTheorems.{upper_number, upper_unchanged, upper_length}
 use Rattle.xorshift.specs.Xorshift.{fill_answer, fill_buffer}
 use Rattle.xorshift.specs.Fill.{fill_number, fill_unchanged, length_fill_buffer}
 use Rattle.certificate.specs.declared.Verdict.{Verdict}

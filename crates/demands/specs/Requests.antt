@@ -69,9 +69,10 @@ use Rattle.safety.proofs.Formerly as formerly
 use Rattle.safety.specs.Formerly.{verdict_formerly}
 use Rattle.safety.specs.Statement.{Schedule, Open, entered, spent, setup_for, Demand3}
 use Rattle.safety.proofs.Theorem.{demand3}
-use Rattle.flag_names.specs.Stores.{stores_flags}
-use Rattle.flag_names.specs.Kept.{flags_in, unnamed_kept, iret_named, iret_loads}
-use Rattle.flag_names.specs.Witnesses.{ChangedBy, named_changed}
+use Rattle.flag_names.specs.Stores.{flags_in, stores_flags}
+use Rattle.flag_names.proofs.Kept.{unnamed_kept, iret_named, iret_loads}
+use Rattle.flag_names.specs.Witnesses.{ChangedBy}
+use Rattle.flag_names.proofs.Witnesses.{named_changed}
 use Rattle.flag_names.specs.Compares.{EdgeFollows, CallFollows, compare_survives, compare_over_call, none_behind_call}
 use Rattle.logger_cases.specs.EntryCost as entering
 use Rattle.logger_cases.specs.Linearised as linearised
@@ -86,15 +87,15 @@ use Rattle.hex_line.specs.declared.Reader.{Reader}
 use Rattle.hex_line.specs.Record.{sum_of, count_of, parse_body, body_length}
 use Rattle.hex_line.specs.Line.{buffer_length, read_line, line_buffer}
 use Rattle.hex_line.specs.Sum.{AllPairs, total_of}
-use Rattle.hex_line.specs.SumLaws as sums
+use Rattle.hex_line.proofs.SumLaws as sums
 use Rattle.hex_text.specs.Text.{text_answer}
 use Rattle.hex_write.specs.ImageText as written
 use Rattle.hex_write.specs.ImageText.{record_count, text_length, write_answer, write_buffer}
 use Rattle.hex_write.specs.Refusals.{write_unchanged}
 use Rattle.hex_upper.specs.Former.{small_letter, NoSmall, former_line, former_buffer}
 use Rattle.hex_upper.specs.Upper.{upper_answer, upper_line}
-use Rattle.hex_upper.specs.SmallLetters as small
-use Rattle.hex_upper.specs.UpperTheorems as upper
+use Rattle.hex_upper.proofs.SmallLetters as small
+use Rattle.hex_upper.proofs.UpperTheorems as upper
 use Rattle.judge.specs.Judgement.{blank_image, blank_certificate}
 use Rattle.judge.specs.JudgementLaws.{length_filled}
 use Rattle.xorshift.specs.Xorshift.{round, record_from, records_from, state_after, fill_answer, fill_buffer}

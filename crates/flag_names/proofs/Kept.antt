@@ -45,11 +45,7 @@ use Rattle.semantics.specs.Step.{Acted, requested, entry_due, behind, finish_of,
 use Rattle.semantics.specs.Step.{valid_machine, step_of}
 use Rattle.safety.specs.Invariant.{Shaped}
 use Rattle.safety.proofs.DecodedShape.{decoded_shaped}
-use Rattle.flag_names.specs.Stores.{pushed_to, stored_to, stores_flags}
-
--- FLAGS in the register file
-abbrev pub flags_in : List ℕ → ℕ
-flags_in r = get_or r flags_cell 0
+use Rattle.flag_names.specs.Stores.{flags_in, pushed_to, stored_to, stores_flags}
 
 -- FLAGS is none of these registers
 among_head : (x : ℕ) (xs : List ℕ) → among flags_cell (x ∷ xs) ≡ false → flags_cell ≢ x
