@@ -71,7 +71,8 @@ use Rattle.report.specs.Report.{report_answer, report_buffer}
 use Rattle.report.specs.Refusals.{report_number, report_unchanged, length_report_buffer}
 use Rattle.judge.specs.Judgement.{printed_answer, printed_buffer}
 use Rattle.judge.specs.Refusals.{printed_number, printed_unchanged, length_printed_buffer}
-use Rattle.logger_cases.specs.Cases.{AllHold, cases, all_hold}
+use Rattle.logger_cases.specs.Cases.{AllHold, cases}
+use Rattle.logger_cases.proofs.Cases.{all_hold}
 
 -- Demand 1. Lent memory holds after every call exactly what document 01 says it holds: input of any length and content is worked through to an end
 -- or refused by a number in 01's table, nothing outside a lent buffer is touched, and a refusal leaves its output buffer unchanged --
