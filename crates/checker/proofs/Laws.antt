@@ -20,8 +20,8 @@ use Rattle.certificate.specs.Layout.{Certificate, certificate_of}
 use Rattle.safety.specs.Rules.{rule20, rule21, rule22, rule23, rule24, rule25, rule26, rule27}
 use Rattle.safety.specs.Verdicts.{rules_with, rules_on, first_broken, number_at, scan_by, scan, verdict_on_by, verdict_by, verdict_of, Exact}
 use Rattle.safety.specs.Statement.{Demand3}
-use Rattle.safety.specs.Exact.{exact}
-use Rattle.safety.specs.Theorem.{demand3}
+use Rattle.safety.proofs.Exact.{exact}
+use Rattle.safety.proofs.Theorem.{demand3}
 use Rattle.checker.specs.declared.Holding.{Holding}
 use Rattle.checker.specs.Tested.{tested}
 

@@ -69,7 +69,7 @@ pub fn high_in(n: Entry, x: RegAddr) -> u8
 }
 
 // The range of the cell behind p, the low half of a pair; behind FFH stands none, and 0 to 255 counts.
-#[tactic(auto, using(safety::specs::CodeRangeLaws::unclaimed))]
+#[tactic(auto, using(safety::proofs::CodeRangeLaws::unclaimed))]
 pub fn second_half_range(n: Entry, p: RegAddr) -> Range
     ensures { (C : Certificate) (a : ℕ) → n ≡ entry_of C a → result ≡ range (Rattle.safety.specs.Rules.low C a (p.0 + 1)) (Rattle.safety.specs.Rules.high C a (p.0 + 1)) }
 {

@@ -47,7 +47,7 @@ use Rattle.machine.specs.CoveredLaws.{covered_number, covered_length, covered_re
 use Rattle.machine.specs.Count.{completed_steps, state_behind, total_cost, Counted, run_state, run_counted}
 use Rattle.hex_line.specs.declared.Reader.{Reader}
 use Rattle.hex_line.specs.Line.{read_line, line_buffer}
-use Rattle.hex_line.specs.Refusals.{line_number, line_unchanged, length_line_buffer}
+use Rattle.hex_line.proofs.Refusals.{line_number, line_unchanged, length_line_buffer}
 use Rattle.hex_text.specs.declared.Stream.{Stream}
 use Rattle.hex_text.specs.Text.{text_answer, text_buffer}
 use Rattle.hex_text.specs.Stream.{feed_buffer, finish_answer}
@@ -56,21 +56,23 @@ use Rattle.hex_write.specs.ImageText.{text_length, write_answer, write_buffer}
 use Rattle.hex_write.specs.Refusals.{write_number, write_unchanged, length_write_buffer}
 use Rattle.hex_write.specs.ReadBack.{ReadsBack, written_whole, write_reads_back}
 use Rattle.hex_upper.specs.Upper.{upper_answer, upper_line}
-use Rattle.hex_upper.specs.UpperTheorems.{upper_number, upper_unchanged, upper_length}
+use Rattle.hex_upper.proofs.UpperTheorems.{upper_number, upper_unchanged, upper_length}
 use Rattle.xorshift.specs.Xorshift.{fill_answer, fill_buffer}
 use Rattle.xorshift.specs.Fill.{fill_number, fill_unchanged, length_fill_buffer}
 use Rattle.certificate.specs.declared.Verdict.{Verdict}
 use Rattle.certificate.specs.declared.Verdict.TheVariants.{Accepted, Refused}
 use Rattle.certificate.specs.Layout.{certificate_of}
 use Rattle.safety.specs.Verdicts.{verdict_of, Broken, Reports, Exact}
-use Rattle.safety.specs.Exact.{CheckNumber, verdict_number, accepted_only_when, accepted_when, refused_only_when, refused_when, exact}
+use Rattle.safety.specs.Verdicts.{CheckNumber}
+use Rattle.safety.proofs.Exact.{verdict_number, accepted_only_when, accepted_when, refused_only_when, refused_when, exact}
 use Rattle.safety.specs.Statement.{Demand3}
-use Rattle.safety.specs.Theorem.{demand3}
+use Rattle.safety.proofs.Theorem.{demand3}
 use Rattle.report.specs.Report.{report_answer, report_buffer}
 use Rattle.report.specs.Refusals.{report_number, report_unchanged, length_report_buffer}
 use Rattle.judge.specs.Judgement.{printed_answer, printed_buffer}
 use Rattle.judge.specs.Refusals.{printed_number, printed_unchanged, length_printed_buffer}
-use Rattle.logger_cases.specs.Cases.{AllHold, cases, all_hold}
+use Rattle.logger_cases.specs.Cases.{AllHold, cases}
+use Rattle.logger_cases.proofs.Cases.{all_hold}
 
 -- Demand 1. Lent memory holds after every call exactly what document 01 says it holds: input of any length and content is worked through to an end
 -- or refused by a number in 01's table, nothing outside a lent buffer is touched, and a refusal leaves its output buffer unchanged --

@@ -57,20 +57,22 @@ use Rattle.certificate.specs.Summaries.{range, code_access}
 use Rattle.safety.specs.Rules.{no_cell, ram_end, Edge, low, high, worst, code_in_rom, change_of, empty_entry, rule20, edge26, rule26, opening_cost}
 use Rattle.safety.specs.Rules.Change.{changed}
 use Rattle.safety.specs.CodeRange.{load_range}
-use Rattle.safety.specs.CodeRangeLaws.{Reaches as CodeReaches, ReachedByte, SetInRom, set_in_rom, whole_set_in_rom, unclaimed}
-use Rattle.safety.specs.CodeRangeLaws.{loaded_holds, loaded_least, loaded_greatest, loaded_direct}
-use Rattle.safety.specs.CodeLoads.{code_of_load, code_of_step, destination_of_load, destination_of_step, pair_of_step}
+use Rattle.safety.specs.CodeReach.{Reaches as CodeReaches, ReachedByte, SetInRom}
+use Rattle.safety.proofs.CodeRangeLaws.{set_in_rom, whole_set_in_rom, unclaimed}
+use Rattle.safety.proofs.CodeRangeLaws.{loaded_holds, loaded_least, loaded_greatest, loaded_direct}
+use Rattle.safety.proofs.CodeLoads.{code_of_load, code_of_step, destination_of_load, destination_of_step, pair_of_step}
 use Rattle.safety.specs.Verdicts.{summary_at, verdict_of, Broken}
-use Rattle.safety.specs.EntryCost as cost
-use Rattle.safety.specs.SmallerCost.{smaller_cost, smaller_cost_safe}
-use Rattle.safety.specs.SmallPart.{image_of_other_length, entry_past_rom, byte_past_rom, bytes_past_rom}
-use Rattle.safety.specs.Formerly as formerly
+use Rattle.safety.proofs.EntryCost as cost
+use Rattle.safety.proofs.SmallerCost.{smaller_cost, smaller_cost_safe}
+use Rattle.safety.proofs.SmallPart.{image_of_other_length, entry_past_rom, byte_past_rom, bytes_past_rom}
+use Rattle.safety.proofs.Formerly as formerly
 use Rattle.safety.specs.Formerly.{verdict_formerly}
 use Rattle.safety.specs.Statement.{Schedule, Open, entered, spent, setup_for, Demand3}
-use Rattle.safety.specs.Theorem.{demand3}
-use Rattle.flag_names.specs.Stores.{stores_flags}
-use Rattle.flag_names.specs.Kept.{flags_in, unnamed_kept, iret_named, iret_loads}
-use Rattle.flag_names.specs.Witnesses.{ChangedBy, named_changed}
+use Rattle.safety.proofs.Theorem.{demand3}
+use Rattle.flag_names.specs.Stores.{flags_in, stores_flags}
+use Rattle.flag_names.proofs.Kept.{unnamed_kept, iret_named, iret_loads}
+use Rattle.flag_names.specs.Witnesses.{ChangedBy}
+use Rattle.flag_names.proofs.Witnesses.{named_changed}
 use Rattle.flag_names.specs.Compares.{EdgeFollows, CallFollows, compare_survives, compare_over_call, none_behind_call}
 use Rattle.logger_cases.specs.EntryCost as entering
 use Rattle.logger_cases.specs.Linearised as linearised
@@ -85,15 +87,15 @@ use Rattle.hex_line.specs.declared.Reader.{Reader}
 use Rattle.hex_line.specs.Record.{sum_of, count_of, parse_body, body_length}
 use Rattle.hex_line.specs.Line.{buffer_length, read_line, line_buffer}
 use Rattle.hex_line.specs.Sum.{AllPairs, total_of}
-use Rattle.hex_line.specs.SumLaws as sums
+use Rattle.hex_line.proofs.SumLaws as sums
 use Rattle.hex_text.specs.Text.{text_answer}
 use Rattle.hex_write.specs.ImageText as written
 use Rattle.hex_write.specs.ImageText.{record_count, text_length, write_answer, write_buffer}
 use Rattle.hex_write.specs.Refusals.{write_unchanged}
 use Rattle.hex_upper.specs.Former.{small_letter, NoSmall, former_line, former_buffer}
 use Rattle.hex_upper.specs.Upper.{upper_answer, upper_line}
-use Rattle.hex_upper.specs.SmallLetters as small
-use Rattle.hex_upper.specs.UpperTheorems as upper
+use Rattle.hex_upper.proofs.SmallLetters as small
+use Rattle.hex_upper.proofs.UpperTheorems as upper
 use Rattle.judge.specs.Judgement.{blank_image, blank_certificate}
 use Rattle.judge.specs.JudgementLaws.{length_filled}
 use Rattle.xorshift.specs.Xorshift.{round, record_from, records_from, state_after, fill_answer, fill_buffer}

@@ -42,11 +42,11 @@ use Rattle.certificate.specs.Layout.{Certificate}
 use Rattle.certificate.specs.Summaries.{flag_effect, binary_flags, binary_summary, summary_of}
 use Rattle.safety.specs.Rules.{no_cell, present, Edge, plain_edge, feasible, callee, is_unchanged, change_of, claims_follow, flags_follow, compare_follows, survives, edge26, call26, calls, rule26}
 use Rattle.safety.specs.Invariant.{Shaped}
-use Rattle.safety.specs.DecodedShape.{decoded_shaped}
-use Rattle.safety.specs.Transfers.{is_call}
+use Rattle.safety.proofs.DecodedShape.{decoded_shaped}
+use Rattle.safety.proofs.Transfers.{is_call}
 use Rattle.safety.specs.CodeRange.{load_range}
 use Rattle.safety.specs.Verdicts.{summary_at}
-use Rattle.safety.specs.Instruction.{summary_decoded}
+use Rattle.safety.proofs.Instruction.{summary_decoded}
 
 some_or_none : (b : ℕ) → b < 256
     → (flag_in Carry (names_of b).0 ≡ true) ⊎ ((flag_in Zero (names_of b).0 ≡ true) ⊎ ((flag_in Sign (names_of b).0 ≡ true)

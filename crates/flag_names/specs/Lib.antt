@@ -1,4 +1,3 @@
 pub mod Compares
-pub mod Kept
 pub mod Stores
 pub mod Witnesses

@@ -2,7 +2,7 @@
 -- destination, direct or pointed, both halves of the pair that LDCI and LDCD step, and where PUSH and CALL write to the stack. SP, the interrupt enable and
 -- the named flags, which are set in place, do not count: so neither does IRET's load of FLAGS, all four of which it names.
 -- Assumes nothing.
-use Rattle.std.specs.Prelude.{ℕ, ◌+◌, ◌%◌, Bool, List, [], ◌∷◌}
+use Rattle.std.specs.Prelude.{ℕ, ◌+◌, ◌%◌, Bool, List, [], ◌∷◌, get_or}
 use Rattle.base.specs.declared.RomAddr.{RomAddr}
 use Rattle.base.specs.Addresses.{flags_cell}
 use Rattle.base.specs.Choice.{pick}
@@ -10,6 +10,10 @@ use Rattle.chip.specs.Registers.{among}
 use Rattle.alu.specs.Operations.{stores}
 use Rattle.action.specs.declared.Action.{Action}
 use Rattle.semantics.specs.Operands.{place_of, sp_of, lowered, push_of}
+
+-- FLAGS in the register file
+abbrev pub flags_in : List ℕ → ℕ
+flags_in r = get_or r flags_cell 0
 
 -- where the two halves of a return address are pushed: SP is lowered before each
 abbrev pub pushed_to : List ℕ → RomAddr → List ℕ

@@ -2,25 +2,18 @@
 -- the bytes behind the first are 21H and 20H; RAM holds 20H in even cells and 31H in odd ones, so pointers stay in RAM; SP is 20H. FLAGS is 00H, F0H or 70H
 -- before. antt computes the steps, for both parts, all first bytes and flags in one test. No interrupt is due, so it is the same whatever an entry costs.
 -- Assumes nothing.
-use Rattle.std.specs.Prelude.{ℕ, zero, suc, ◌-◌, ◌<◌, ◌≡◌, ◌≢◌, Bool, not, ◌&&◌, ◌||◌, List, [], ◌∷◌, ◌++◌, T, eqb, ltb, length, get_or, replicate}
-use Rattle.std.proofs.Math.Path.{refl}
-use Rattle.std.proofs.Common.{sym, subst, arith, eqb-true, ltb-true, lt-ltb}
+use Rattle.std.specs.Prelude.{ℕ, zero, suc, ◌-◌, ◌≡◌, ◌≢◌, Bool, not, ◌&&◌, ◌||◌, List, [], ◌∷◌, ◌++◌, eqb, length, get_or, replicate}
 use Rattle.std.specs.Bool.{beq}
 use Rattle.std.proofs.Math.Bool.{true, false}
 use Rattle.base.specs.Addresses.{rom_addr}
 use Rattle.base.specs.Cells.{Bytes}
 use Rattle.base.specs.declared.Profile.{Profile}
-use Rattle.base.specs.declared.Profile.TheVariants.{Rom4K, Rom2K}
-use Rattle.base.specs.Lengths.{record_length, is_entry_cost}
+use Rattle.base.specs.Lengths.{record_length}
 use Rattle.base.specs.Parts.{part_of}
 use Rattle.base.specs.Choice.{pick}
-use Rattle.std.proofs.lemmas.Bool.{not-true}
-use Rattle.base.specs.Formula.{sound, of_true, eqb_yes, ◌&◌}
-use Rattle.base.specs.Formula.Formula.{test, forall_below}
 use Rattle.base.specs.Outcome.{Outcome}
 use Rattle.base.specs.Outcome.Outcome.{value, refused}
 use Rattle.isa.specs.declared.Flag.{Flag}
-use Rattle.isa.specs.declared.Flag.TheVariants.{Carry, Zero, Sign, Overflow}
 use Rattle.isa.specs.declared.FlagSet.{FlagSet}
 use Rattle.isa.specs.declared.Instruction.{Instruction}
 use Rattle.isa.specs.Flags.{flag_in}
@@ -31,10 +24,8 @@ use Rattle.action.specs.Action.{action_of}
 use Rattle.semantics.specs.declared.Mode.TheVariants.{Running}
 use Rattle.semantics.specs.declared.State.{State}
 use Rattle.semantics.specs.Setup.{Setup}
-use Rattle.semantics.specs.Opened.{opened}
-use Rattle.semantics.specs.Step.{Acted, requested, behind, acted_of, settled, step_of}
-use Rattle.flag_names.specs.Stores.{stored_to, stores_flags}
-use Rattle.flag_names.specs.Kept.{flags_in}
+use Rattle.semantics.specs.Step.{requested, behind, acted_of, step_of}
+use Rattle.flag_names.specs.Stores.{flags_in, stores_flags}
 
 -- a step of a machine that got K, whose instruction begins with this byte, completes, does not store into FLAGS, and changes the flag
 pub record ChangedBy (K : Setup) (first : ℕ) (g : Flag) : Type 0 where
@@ -54,87 +45,36 @@ pub record ChangedBy (K : Setup) (first : ℕ) (g : Flag) : Type 0 where
       ≡ false
   pub changes : flag_in g (flags_in (step_of K image state rec).state.regs) ≢ flag_in g (flags_in state.regs)
 
-image_of : ℕ → ℕ → List ℕ
+unfoldable pub image_of : ℕ → ℕ → List ℕ
 image_of rom first = first ∷ 0x21 ∷ replicate (rom - 2) 0x20
 
 -- n even cells, each with the odd one behind it
-alternating : ℕ → List ℕ
+unfoldable pub alternating : ℕ → List ℕ
 alternating zero = []
 alternating (suc n) = 0x20 ∷ 0x31 ∷ alternating n
 
 -- RAM up to CFH; FLAGS is at D5H, SP at D9H
-registers_with : ℕ → List ℕ
+unfoldable pub registers_with : ℕ → List ℕ
 registers_with flags = alternating 104 ++ (0 ∷ 0 ∷ 0 ∷ 0 ∷ 0 ∷ flags ∷ 0 ∷ 0 ∷ 0 ∷ 0x20 ∷ replicate 38 0)
 
-state_with : ℕ → State
+unfoldable pub state_with : ℕ → State
 state_with flags = record { regs = registers_with flags; pc = rom_addr 0; mode = Running; cycles = 0 }
 
-no_requests : List ℕ
+unfoldable pub no_requests : List ℕ
 no_requests = replicate 8 0
 
 -- what was decoded does not store into FLAGS, on a part that grounds A/D inputs or not
-avoids : Bool → State → Outcome (Instruction × ℕ × FlagSet) → Bool
+unfoldable pub avoids : Bool → State → Outcome (Instruction × ℕ × FlagSet) → Bool
 avoids grounds s (value d) =
     not (stores_flags (action_of d.0 (behind s.pc d.1)) (requested s no_requests) (inputs_of grounds no_requests) (behind s.pc d.1))
 avoids grounds s (refused n) = false
 
-differ : (a b : Bool) → not (beq a b) ≡ true → a ≢ b
-differ true true e q = subst T (sym e) tt
-differ true false e q = subst T q tt
-differ false true e q = subst T (sym q) tt
-differ false false e q = subst T (sym e) tt
-
--- each number of a list is a byte
-fit : List ℕ → Bool
-fit [] = true
-fit (x ∷ xs) = ltb x 256 && fit xs
-
-fits : (xs : List ℕ) → fit xs ≡ true → Bytes xs
-unfolding fit
-fits [] e k = omega arith
-fits (x ∷ xs) e zero = ltb-true x 256 (sound (test (ltb x 256) & test (fit xs)) (of_true _ e)).0
-fits (x ∷ xs) e (suc k) = fits xs (sound (test (ltb x 256) & test (fit xs)) (of_true _ e)).1 k
-
-image_fits : (p : Profile) (first : ℕ) → first < 256 → fit (image_of (part_of p).rom first) ≡ true
-unfolding fit image_of
-image_fits Rom4K first h = rw (lt-ltb first 256 h)
-image_fits Rom2K first h = rw (lt-ltb first 256 h)
-
-image_size : (p : Profile) (first : ℕ) → length (image_of (part_of p).rom first) ≡ (part_of p).rom
-unfolding image_of
-image_size Rom4K first = refl
-image_size Rom2K first = refl
-
--- the parts by number, for a test over both
-numbered : ℕ → Profile
-numbered n = pick (eqb n 0) Rom4K Rom2K
-
-number : Profile → ℕ
-number Rom4K = 0
-number Rom2K = 1
-
-number_below : (p : Profile) → number p < 2
-unfolding number
-number_below Rom4K = omega arith
-number_below Rom2K = omega arith
-
-number_back : (p : Profile) → numbered (number p) ≡ p
-unfolding number numbered
-number_back Rom4K = refl
-number_back Rom2K = refl
-
--- a value of FLAGS, in the registers
-record Before (f : ℕ) : Type 0 where
-  pub held : flags_in (registers_with f) ≡ f
-  pub size : length (registers_with f) ≡ 256
-  pub fitting : fit (registers_with f) ≡ true
-
 module _ (cost : ℕ) where
-  abbrev setup_on : Profile → Setup
+  abbrev pub setup_on : Profile → Setup
   setup_on p = record { part = part_of p; entry_cost = cost }
 
   -- the step from FLAGS f changes the flag, and so on
-  tells : Profile → ℕ → Flag → ℕ → Bool
+  unfoldable pub tells : Profile → ℕ → Flag → ℕ → Bool
   tells p first g f =
       let s = state_with f in
       let image = image_of (part_of p).rom first in
@@ -143,74 +83,5 @@ module _ (cost : ℕ) where
       && (a.retired && (eqb a.stop 0 && avoids (part_of p).grounds s (decode_at image 0)))
 
   -- a flag that is named is changed from one of these
-  witnessed : Profile → ℕ → Flag → Bool
+  unfoldable pub witnessed : Profile → ℕ → Flag → Bool
   witnessed p first g = pick (flag_in g (names_of first).0) (tells p first g 0 || (tells p first g 0xF0 || tells p first g 0x70)) true
-
-  all_witnessed : (n : ℕ) → n < 2 → (first : ℕ) → first < 256
-      → (witnessed (numbered n) first Carry ≡ true)
-      × ((witnessed (numbered n) first Zero ≡ true) × ((witnessed (numbered n) first Sign ≡ true) × (witnessed (numbered n) first Overflow ≡ true)))
-  unfolding opened stored_to stores_flags numbered witnessed tells avoids no_requests state_with registers_with alternating image_of
-  all_witnessed n l first h =
-      sound
-      (forall_below 2 (λ n. forall_below 256 (λ b. test (witnessed (numbered n) b Carry)
-      & (test (witnessed (numbered n) b Zero) & (test (witnessed (numbered n) b Sign) & test (witnessed (numbered n) b Overflow))))))
-      tt n l first h
-
-  is_witnessed : (p : Profile) (first : ℕ) → first < 256 → (g : Flag) → witnessed p first g ≡ true
-  is_witnessed p first h g = subst (λ (q : Profile). witnessed q first g ≡ true) (number_back p) (by_flag g)
-    where
-      by_flag : (g : Flag) → witnessed (numbered (number p)) first g ≡ true
-      by_flag Carry = (all_witnessed (number p) (number_below p) first h).0
-      by_flag Zero = (all_witnessed (number p) (number_below p) first h).1.0
-      by_flag Sign = (all_witnessed (number p) (number_below p) first h).1.1.0
-      by_flag Overflow = (all_witnessed (number p) (number_below p) first h).1.1.1
-
-  module _ (valid : is_entry_cost cost ≡ true) (p : Profile) where
-    abbrev image_here : ℕ → List ℕ
-    image_here first = image_of (part_of p).rom first
-
-    -- configuration and lengths are right, so the step is its act
-    whole_step : (first f : ℕ) → step_of (setup_on p) (image_here first) (state_with f) no_requests ≡ settled (state_with f) (acted_of (setup_on p) (image_here first) (state_with f) no_requests)
-    unfolding step_of no_requests
-    whole_step first f = rw (valid, image_size p first, eqb_yes {a = (part_of p).rom} refl)
-
-    made : (first : ℕ) → first < 256 → (g : Flag) (f : ℕ) → Before f → tells p first g f ≡ true → ChangedBy (setup_on p) first g
-    unfolding tells avoids state_with image_of no_requests settled fit
-    made first h g f e t = go (decode_at (image_here first) 0) refl z.1.1.1
-      where
-        a : Acted
-        a = acted_of (setup_on p) (image_here first) (state_with f) no_requests
-
-        z : (not (beq (flag_in g (flags_in a.state.regs)) (flag_in g f)) ≡ true) × ((a.retired ≡ true) × ((eqb a.stop 0 ≡ true)
-            × (avoids (part_of p).grounds (state_with f) (decode_at (image_here first) 0) ≡ true)))
-        z =
-            sound
-            (test (not (beq (flag_in g (flags_in a.state.regs)) (flag_in g f)))
-            & (test a.retired & (test (eqb a.stop 0) & test (avoids (part_of p).grounds (state_with f) (decode_at (image_here first) 0)))))
-            (of_true _ t)
-
-        go : (o : Outcome (Instruction × ℕ × FlagSet)) → decode_at (image_here first) 0 ≡ o → avoids (part_of p).grounds (state_with f) o ≡ true → ChangedBy (setup_on p) first g
-        go (value d) q v = record {
-          image = image_here first;
-          state = state_with f;
-          rec = no_requests;
-          sizes = (image_size p first, (e.size, refl));
-          bytes = (fits (image_here first) (image_fits p first h), (fits (registers_with f) e.fitting, fits no_requests refl));
-          begins = refl;
-          instruction = d;
-          found = q;
-          retired = z.1.0;
-          goes = rw (whole_step first f) (eqb-true _ _ z.1.1.0);
-          elsewhere = not-true _ v;
-          changes = rw (whole_step first f, e.held) (differ _ _ z.0);
-        }
-        go (refused n) q v = absurd (subst T (sym v) tt)
-
-    pub named_changed : (first : ℕ) → first < 256 → (g : Flag) → flag_in g (names_of first).0 ≡ true → ChangedBy (setup_on p) first g
-    unfolding witnessed registers_with alternating fit
-    named_changed first h g named = by_case (tells p first g 0) (tells p first g 0xF0) refl refl (rw named at (is_witnessed p first h g))
-      where
-        by_case : (b c : Bool) → tells p first g 0 ≡ b → tells p first g 0xF0 ≡ c → (b || (c || tells p first g 0x70)) ≡ true → ChangedBy (setup_on p) first g
-        by_case true c r q t = made first h g 0 (record { held = refl; size = refl; fitting = refl }) r
-        by_case false true r q t = made first h g 0xF0 (record { held = refl; size = refl; fitting = refl }) q
-        by_case false false r q t = made first h g 0x70 (record { held = refl; size = refl; fitting = refl }) t

@@ -7,7 +7,7 @@ use Rattle.base.specs.Lengths.{greatest_entry_cost}
 use Rattle.certificate.specs.declared.Verdict.TheVariants.{Accepted, Refused}
 use Rattle.certificate.specs.Layout.{certificate_from}
 use Rattle.safety.specs.Verdicts.{verdict_of}
-use Rattle.safety.specs.EntryCost.{cost_above_63}
+use Rattle.safety.proofs.EntryCost.{cost_above_63}
 use Rattle.logger_cases.specs.Gathered.{bytes_length}
 use Rattle.logger_cases.specs.Computed.{certificate_tables}
 use Rattle.logger_cases.specs.Program.{rom, image_with, entry, cell, row, certificate_for, entry_length, cell_length_lem, row_length}

@@ -2,7 +2,7 @@
 -- the lowest number. Below it, what a verdict reports of the rules. The verdict goes by a list of rules at each address, so that S`Formerly` can say what
 -- it was with others.
 -- Assumes nothing.
-use Rattle.std.specs.Prelude.{ℕ, zero, suc, ◌+◌, ◌%◌, ◌<◌, ◌≡◌, ◌≢◌, ◌⊎◌, true, false, ◌&&◌, List, [], ◌∷◌, length, get_or, eqb}
+use Rattle.std.specs.Prelude.{ℕ, zero, suc, ◌+◌, ◌%◌, ◌≤◌, ◌<◌, ◌≡◌, ◌≢◌, ◌⊎◌, true, false, ◌&&◌, List, [], ◌∷◌, length, get_or, eqb}
 use Rattle.base.specs.Addresses.{rom_addr}
 use Rattle.base.specs.Choice.{pick}
 use Rattle.base.specs.Outcome.{Outcome}
@@ -145,3 +145,7 @@ Reports rom image cert (Refused n a) =
 pub record Exact (rom : ℕ) (image cert : List ℕ) (v : Verdict) : Type 0 where
   pub reports : Reports rom image cert v
   pub only : (w : Verdict) → Reports rom image cert w → w ≡ v
+
+-- a number by which a certificate is refused
+abbrev pub CheckNumber : ℕ → Type 0
+CheckNumber n = (n ≡ 7) ⊎ ((20 ≤ n) × (n ≤ 27))
