@@ -13,7 +13,6 @@ use Rattle.safety.specs.Rules as rules
 use Rattle.safety.specs.Rules.{low, high}
 use Rattle.entries.specs.declared.Entry.{Entry}
 use Rattle.entries.specs.Fields.{entry_of}
-use Rattle.claims.specs.declared.Change.{Change}
 use Rattle.claims.specs.declared.Change.TheVariants.{Unchanged, Changed}
 use Rattle.claims.specs.Values.{change_in}
 

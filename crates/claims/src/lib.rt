@@ -1,6 +1,7 @@
 // Ranges, values left on an edge, changes of cells and bounds: what several rules read of an entry. A contract over an entry n speaks of every
 // address, of any certificate, whose entry is n.
 #![tactic(auto)]
+
 ghost use Rattle.std.specs.Prelude.{◌≡◌, ℕ, ◌+◌, ◌-◌, true, false};
 ghost use Rattle.base.specs.Choice.{pick};
 ghost use Rattle.base.specs.Formula.{decide};

@@ -1,5 +1,6 @@
 // Request 14: the range of the ROM bytes that LDC, LDCI and LDCD can load.
 #![tactic(auto)]
+
 ghost use Rattle.std.specs.Prelude.{◌≡◌, ◌+◌, ◌-◌, ◌*◌, min, max};
 ghost use Rattle.certificate.specs.Layout.{certificate_of};
 ghost use Rattle.safety.specs.CodeRange.{widened, no_byte, rows_from};

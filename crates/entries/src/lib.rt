@@ -1,5 +1,6 @@
 // The certificate's parts and fields. Each read is total: past the end a byte counts as 0, as in the definitions.
 #![tactic(auto)]
+
 ghost use Rattle.std.specs.Prelude.{◌≡◌, take, drop, ◌+◌, ◌<◌, ◌≤◌};
 ghost use Rattle.certificate.specs.Layout.{word, entry_part, cell_part, row_part, certificate_of};
 ghost use Rattle.base.specs.Lengths.{short_certificate_length};

@@ -1,5 +1,6 @@
 // The judgement of an image text and a certificate text.
 #![tactic(auto)]
+
 ghost use Rattle.std.specs.Prelude.{◌≡◌, length};
 ghost use Rattle.hex_write.specs.ImageText.{written_outcome};
 ghost use Rattle.judge.specs.Judgement.{printed_answer, printed_buffer};

@@ -1,5 +1,6 @@
 // The instruction at an address, as the rules ask of it: its summary, the address behind it, and its cycles.
 #![tactic(auto)]
+
 ghost use Rattle.std.specs.Prelude.{◌≡◌};
 ghost use Rattle.base.specs.Outcome.Outcome.{value};
 ghost use Rattle.certificate.specs.Layout.{certificate_of};

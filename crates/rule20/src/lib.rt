@@ -1,5 +1,6 @@
 // Rule 20: the certificate is laid out as it should be.
 #![tactic(auto)]
+
 ghost use Rattle.std.specs.Prelude.{◌≡◌, ℕ, eqb};
 ghost use Rattle.base.specs.Choice.{pick};
 ghost use Rattle.base.specs.Formula.{decide, le, lt, ◌&◌};

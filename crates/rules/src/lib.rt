@@ -1,5 +1,6 @@
 // Rules 21 to 23 at an address: successors, forbidden instructions, direct operands.
 #![tactic(auto)]
+
 ghost use Rattle.std.specs.Prelude.{◌≡◌, ◌+◌};
 ghost use Rattle.base.specs.Formula.{decide, ◌&◌};
 ghost use Rattle.certificate.specs.Layout.{certificate_of};

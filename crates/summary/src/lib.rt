@@ -1,5 +1,6 @@
 // The effect summary of an action at an address and the flags that it names.
 #![tactic(auto)]
+
 ghost use Rattle.std.specs.Prelude.{◌≡◌};
 ghost use Rattle.certificate.specs.Summaries.{write_to, binary_value, flag_effect, binary_flags, binary_summary, modify_value, load_summary};
 ghost use Rattle.certificate.specs.Summaries.{code_access, onward, summary_of, reaching as reachingOf};

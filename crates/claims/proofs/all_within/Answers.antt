@@ -1,5 +1,5 @@
 -- The search stops at the first value that is left and lies outside, or behind the high end.
-use Rattle.std.proofs.Common.{◌≡◌, ◌<◌, ◌≤◌, arith, below_more, ⊎_elim, refl}
+use Rattle.std.proofs.Common.{◌<◌, ◌≤◌, arith, below_more, ⊎_elim, refl}
 use Rattle.base.specs.Formula.{le?, decide_true, decide_false, decide_yes, decide_no}
 use Rattle.claims.specs.Values.{among, stays_within, all_within}
 use Rattle.claims.proofs.all_within.Goals as goal

@@ -1,7 +1,7 @@
 -- Every value below the counter that is left lies in the range.
 use Rattle.std.proofs.Common.{◌-◌, ◌≡◌, ℕ, ◌<◌, ◌≤◌}
-use Rattle.base.specs.Formula.{Holds, neg}
-use Rattle.claims.specs.Values.{among, stays_within}
+use Rattle.base.specs.Formula.{Holds}
+use Rattle.claims.specs.Values.{stays_within}
 use Rattle.claims.proofs.all_within.Given as goal
 
 abbrev pub invariant-loop-v : goal.invariant-loop-v

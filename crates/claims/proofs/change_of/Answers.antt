@@ -1,5 +1,4 @@
 -- A write to a register and to a pair by the pair's own law.
-use Rattle.std.proofs.Common.{sym}
 use Rattle.claims.proofs.change_of.Goals as goal
 
 pub returns-in-RegisterAndPair : goal.returns-in-RegisterAndPair

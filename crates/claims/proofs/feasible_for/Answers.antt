@@ -1,5 +1,5 @@
 -- A value of a claimed cell is left unless the search over its range finds none.
-use Rattle.std.proofs.Common.{◌≡◌, ◌∙◌, ap}
+use Rattle.std.proofs.Common.{◌∙◌, ap}
 use Rattle.base.specs.Formula.{decide, decide_true, decide_false, decide_yes, decide_no}
 use Rattle.claims.specs.declared.Values.{Values}
 use Rattle.claims.specs.Values.{edge_of, none_among, values_of, feasible_for, left_among, among_left}

@@ -1,5 +1,5 @@
 -- The search starts at the low end and stops at the first value that is left, or behind the high end.
-use Rattle.std.proofs.Common.{◌≡◌, ◌<◌, ◌≤◌, arith, below_more, ⊎_elim, refl}
+use Rattle.std.proofs.Common.{◌<◌, ◌≤◌, arith, below_more, ⊎_elim, refl}
 use Rattle.base.specs.Formula.{le?, decide_true, decide_false, decide_yes, decide_no}
 use Rattle.claims.specs.Values.{among, none_among}
 use Rattle.claims.proofs.none_left.Goals as goal

@@ -1,7 +1,7 @@
 -- No value below the counter is left.
 use Rattle.std.proofs.Common.{◌-◌, ◌≡◌, ℕ, ◌<◌, ◌≤◌}
 use Rattle.base.specs.Formula.{Holds, neg}
-use Rattle.claims.specs.Values.{among, stays_within}
+use Rattle.claims.specs.Values.{among}
 use Rattle.claims.proofs.none_left.Given as goal
 
 abbrev pub invariant-loop-v : goal.invariant-loop-v

@@ -1,8 +1,6 @@
 -- The loop's range, widened by the bytes that are left, is the range widened by the whole row.
-use Rattle.std.proofs.Common.{◌-◌, ◌≡◌, ◌+◌, ◌*◌, min, max, ℕ, ◌<◌, ◌≤◌, length, drop}
-use Rattle.certificate.specs.Layout.{certificate_of}
-use Rattle.safety.specs.CodeRange.{widened, no_byte, rows_from}
-use Rattle.code_range.proofs.Laws.{widened_next}
+use Rattle.std.proofs.Common.{◌-◌, ◌≡◌, ◌≤◌, length, drop}
+use Rattle.safety.specs.CodeRange.{widened}
 use Rattle.certificate.specs.Summaries.{range}
 use Rattle.safety.specs.CodeRange.{widened}
 use Rattle.code_range.proofs.row_range.Given as goal

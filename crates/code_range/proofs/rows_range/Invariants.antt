@@ -1,8 +1,6 @@
 -- The loop's range, widened by the rows that are left, is that of all rows.
-use Rattle.std.proofs.Common.{◌-◌, ◌≡◌, ◌+◌, ◌*◌, min, max, ℕ, ◌<◌, ◌≤◌, length, drop}
-use Rattle.certificate.specs.Layout.{certificate_of}
+use Rattle.std.proofs.Common.{◌-◌, ◌≡◌, ◌+◌, ◌*◌, ◌≤◌}
 use Rattle.safety.specs.CodeRange.{widened, no_byte, rows_from}
-use Rattle.code_range.proofs.Laws.{widened_row}
 use Rattle.safety.specs.CodeRange.{widened, no_byte, rows_from}
 use Rattle.code_range.proofs.rows_range.Given as goal
 

@@ -1,5 +1,5 @@
 -- A register's part is 3 bytes from E000H on.
-use Rattle.std.proofs.Common.{◌<◌, arith}
+use Rattle.std.proofs.Common.{arith}
 use Rattle.std.proofs.Math.Seq.{drop-drop}
 use Rattle.std.proofs.lemmas.Bool.{lt-ltb}
 use Rattle.certificate.specs.Layout.{part}

@@ -1,5 +1,4 @@
 -- Within ROM the part is the 14 bytes at 14 × address, past it empty; its fields are the certificate's.
-use Rattle.std.proofs.Common.{arith}
 use Rattle.std.proofs.lemmas.Bool.{lt-ltb, le-ltb}
 use Rattle.certificate.specs.Layout.{part}
 use Rattle.entries.proofs.Pieces.{with_fields}

@@ -1,5 +1,4 @@
 -- Of a routine that has a row the part is 6 bytes from E300H on.
-use Rattle.std.proofs.Common.{◌<◌, arith}
 use Rattle.std.proofs.Math.Seq.{drop-drop}
 use Rattle.std.proofs.lemmas.Bool.{lt-ltb, le-ltb}
 use Rattle.certificate.specs.Layout.{part}

@@ -3,8 +3,7 @@ use Rattle.std.proofs.Common.{below_more, arith}
 use Rattle.rule20.specs.Parts.{addresses_rule}
 use Rattle.safety.specs.Rules.{address_rule}
 use Rattle.certificate.specs.Layout.{certificate_of}
-use Rattle.base.specs.Formula.{Holds, decide_yes, decide_no, decide_true, decide_false}
-use Rattle.base.specs.Lengths.{largest_rom}
+use Rattle.base.specs.Formula.{decide_yes, decide_no, decide_true, decide_false}
 use Rattle.rule20.proofs.addresses_rule.Goals as goal
 
 pub returns-then-not-address_rule : goal.returns-then-not-address_rule

@@ -3,7 +3,7 @@ use Rattle.std.proofs.Common.{below_more, arith}
 use Rattle.rule20.specs.Parts.{starts_rule}
 use Rattle.safety.specs.Rules.{start_rule}
 use Rattle.certificate.specs.Layout.{certificate_of}
-use Rattle.base.specs.Formula.{Holds, decide_yes, decide_no, decide_true, decide_false}
+use Rattle.base.specs.Formula.{decide_yes, decide_no, decide_true, decide_false}
 use Rattle.rule20.proofs.starts_rule.Goals as goal
 
 pub returns-then-not-start_rule : goal.returns-then-not-start_rule

@@ -1,16 +1,10 @@
 -- Every start passed holds; the loop stops at the first that does not.
-use Rattle.std.proofs.Common.{◌-◌, ◌≡◌, ℕ, eqb, ◌+◌, ◌*◌, ◌<◌, ◌≤◌, length}
-use Rattle.base.specs.Choice.{pick}
-use Rattle.base.specs.Formula.{decide, le, lt, ◌&◌}
-use Rattle.certificate.specs.Layout.{Certificate, certificate_of}
-use Rattle.entries.specs.Fields.{entry_of}
-use Rattle.safety.specs.Rules.{side_at, cell_rule, claim_rule, compare_rule, empty_entry, entry_rule, address_rule, start_rule, bare_rule}
-use Rattle.rule20.specs.Parts.{routine_rule, bound_rule, claims_rule, cells_rule, starts_rule, addresses_rule, main_rule, service_rule, fixed_rule}
-use Rattle.rule20.specs.Parts.{starts_rule}
+use Rattle.std.proofs.Common.{◌-◌, ℕ, ◌<◌, ◌≤◌}
+use Rattle.certificate.specs.Layout.{certificate_of}
+use Rattle.safety.specs.Rules.{start_rule}
 use Rattle.safety.specs.Rules.{start_rule}
 use Rattle.certificate.specs.Layout.{certificate_of}
-use Rattle.base.specs.Formula.{Holds, decide_yes, decide_no, decide_true, decide_false}
-use Rattle.std.proofs.Common.{take, drop, get_or, set}
+use Rattle.base.specs.Formula.{Holds}
 use Rattle.rule20.proofs.starts_rule.Given as goal
 
 abbrev pub invariant-loop-n : goal.invariant-loop-n
