@@ -19,9 +19,10 @@ use Rattle.timers.specs.declared.Timers.{Timers}
 use Rattle.timers.specs.Periods.{periods_of, advanced}
 use Rattle.timers.specs.Counting.{ticks}
 use Rattle.timers.specs.Dividing.{t0_passes}
-use Rattle.timers.specs.Closed.{passed_of, periods_closed, periods_quiet}
+use Rattle.timers.specs.Closed.{passed_of}
+use Rattle.timers.proofs.ClosedLaws.{periods_closed, periods_quiet}
 use Rattle.timers.specs.Settled.{held, timers_after, with_count, registers_with}
-use Rattle.timers.specs.Laws.{counts_byte}
+use Rattle.timers.proofs.Laws.{counts_byte}
 
 -- neither acts
 pub neither_acts : (a b h : ℕ) → (not (eqb a b) || eqb h 1) ≡ false → (a ≡ b) × (h ≢ 1)
