@@ -45,7 +45,7 @@ module _ (before : Before) (regs : List ℕ) (divider cycles : ℕ) (acts : get_
       }
   unfolding timers_after advanced
   running_timers =
-      rw (eq-eqb _ _ same_bit, ne_eqb _ _ free) (periods_closed before false divider (get_or regs 0xD0 0) (cycles * periods_of before.clkcon))
+      simp (eq-eqb _ _ same_bit, ne_eqb _ _ free) (periods_closed before false divider (get_or regs 0xD0 0) (cycles * periods_of before.clkcon))
 
   -- BTCON stays
   pub running_registers : (t : Timers) → with_count regs t.t0 ≡ registers_with before regs t
