@@ -99,7 +99,7 @@ fn over_cycles(before: Before, divider: u16, cycles: u8) -> Passed
 }
 
 // n ticks from count c on.
-#[tactic(auto, using(crate::specs::Counting::ticks_before, crate::specs::Counting::ticks_late))]
+#[tactic(auto, using(crate::proofs::CountingLaws::ticks_before, crate::proofs::CountingLaws::ticks_late))]
 fn counted(c: u8, limit: u8, n: u16) -> Count
     ensures { result ≡ ticks limit n (record { count = c; matched = false }) }
 {
@@ -138,7 +138,7 @@ fn timer0(hold: bool, c: u8, limit: u8, n: u16) -> Count
 }
 
 // The timers behind a step of so many cycles.
-#[tactic(auto, using(crate::specs::Closed::periods_closed), unfolding(crate::specs::Periods::advanced))]
+#[tactic(auto, using(crate::proofs::ClosedLaws::periods_closed), unfolding(crate::specs::Periods::advanced))]
 pub fn advance(before: Before, hold: bool, divider: u16, count: u8, cycles: u8) -> Timers
     ensures { result ≡ advanced before hold divider count cycles }
 {

@@ -19,9 +19,10 @@ use Rattle.timers.specs.declared.Timers.{Timers}
 use Rattle.timers.specs.Periods.{periods_of, advanced}
 use Rattle.timers.specs.Counting.{ticks}
 use Rattle.timers.specs.Dividing.{t0_passes}
-use Rattle.timers.specs.Closed.{passed_of, periods_closed, periods_quiet}
+use Rattle.timers.specs.Closed.{passed_of}
+use Rattle.timers.proofs.ClosedLaws.{periods_closed, periods_quiet}
 use Rattle.timers.specs.Settled.{held, timers_after, with_count, registers_with}
-use Rattle.timers.specs.Laws.{counts_byte}
+use Rattle.timers.proofs.Laws.{counts_byte}
 
 -- neither acts
 pub neither_acts : (a b h : ℕ) → (not (eqb a b) || eqb h 1) ≡ false → (a ≡ b) × (h ≢ 1)
@@ -44,7 +45,7 @@ module _ (before : Before) (regs : List ℕ) (divider cycles : ℕ) (acts : get_
       }
   unfolding timers_after advanced
   running_timers =
-      rw (eq-eqb _ _ same_bit, ne_eqb _ _ free) (periods_closed before false divider (get_or regs 0xD0 0) (cycles * periods_of before.clkcon))
+      simp (eq-eqb _ _ same_bit, ne_eqb _ _ free) (periods_closed before false divider (get_or regs 0xD0 0) (cycles * periods_of before.clkcon))
 
   -- BTCON stays
   pub running_registers : (t : Timers) → with_count regs t.t0 ≡ registers_with before regs t
