@@ -1,5 +1,6 @@
 // A client of checker and machine, proved from their contracts alone: an accepted program runs from reset over any schedule to its end.
 #![tactic(auto)]
+
 ghost use Rattle.std.specs.Prelude.{◌≡◌, ◌%◌, length};
 ghost use Rattle.base.specs.Lengths.{record_length};
 ghost use Rattle.base.specs.Parts.{part_of};

@@ -1,5 +1,6 @@
 // The types of the certificate and of the effect summaries. Their meaning is in specs/; the code is in `checker`.
 #![tactic(auto)]
+
 use base::{RegAddr, RomAddr};
 
 // From one byte to another, both included.

@@ -1,5 +1,6 @@
 // The certificate checker.
 #![tactic(auto)]
+
 ghost use Rattle.std.specs.Prelude.{◌≡◌};
 ghost use Rattle.base.specs.Parts.{part_of};
 ghost use Rattle.certificate.specs.Layout.{certificate_of};

@@ -1,5 +1,6 @@
 // States and configurations of the machine as the vector files give them.
 #![tactic(auto)]
+
 use base::{IMAGE_4K, Profile, RomAddr, byte_at};
 use semantics::{Configuration, Mode, State};
 use test_support::{long_at, put, word_at};

@@ -1,5 +1,6 @@
 // Coverage maps as the vector files give them, a list of marked addresses. Made apart from `coverage::mark`, since the test programs compare what that has marked.
 #![tactic(auto)]
+
 use base::LARGEST_ROM;
 use coverage::Map;
 use std::io::Read;

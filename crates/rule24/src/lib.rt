@@ -1,5 +1,6 @@
 // Rule 24 at an address: pointers stay in their tables, and LDC in ROM.
 #![tactic(auto)]
+
 ghost use Rattle.std.specs.Prelude.{◌≡◌};
 ghost use Rattle.base.specs.Formula.{decide};
 ghost use Rattle.certificate.specs.Layout.{certificate_of};

@@ -1,5 +1,6 @@
 // Rule 25 at an address: stack depth, and the stack's room for main and the service.
 #![tactic(auto)]
+
 ghost use Rattle.std.specs.Prelude.{◌≡◌};
 ghost use Rattle.base.specs.Formula.{decide, eq};
 ghost use Rattle.certificate.specs.Layout.{certificate_of};

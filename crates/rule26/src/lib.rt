@@ -1,5 +1,6 @@
 // Rule 26: claims and compares follow.
 #![tactic(auto)]
+
 ghost use Rattle.std.specs.Prelude.{◌≡◌, true, false, ℕ};
 ghost use Rattle.base.specs.Formula.{decide, neg, eq, ◌⇒◌};
 ghost use Rattle.certificate.specs.Layout.{Certificate, certificate_of};

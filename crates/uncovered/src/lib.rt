@@ -1,5 +1,6 @@
 // The lowest instruction start of a certificate that a coverage map has not marked.
 #![tactic(auto)]
+
 ghost use Rattle.std.specs.Prelude.{◌≡◌, not, ℕ, ◌+◌, ◌*◌, ◌<◌};
 ghost use Rattle.base.specs.Addresses.{rom_addr};
 ghost use Rattle.certificate.specs.Layout.{certificate_of};

@@ -10,5 +10,5 @@ returns c =
     let image = g.image.now in
     let cert = g.cert.now in
     let h = verdict g.profile image cert _ (λ n. omega (arith, c.type_inv.image n)) (λ n. omega (arith, c.type_inv.cert n))
-        (c.verdict_for.ensures ∙ ap (λ (r : ℕ). verdict_of r image cert) c.rom_length.ensures) in
+    (c.verdict_for.ensures ∙ ap (λ (r : ℕ). verdict_of r image cert) c.rom_length.ensures) in
     record { verdict = h.0; exact = h.1.0; safe = h.1.1 }
