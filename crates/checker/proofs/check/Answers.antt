@@ -1,5 +1,5 @@
 -- The verdict for the part's ROM; with it come its exactness and demand 3.
-use Rattle.std.proofs.Common.{◌≡◌, ℕ, ◌∙◌, ap, arith}
+use Rattle.std.proofs.Common.{ℕ, ◌∙◌, ap, arith}
 use Rattle.safety.specs.Verdicts.{verdict_of}
 use Rattle.checker.proofs.Laws.{verdict}
 use Rattle.checker.proofs.check.Goals as goal

@@ -1,5 +1,5 @@
 -- `lowest_unmarked`: every start in the words passed is marked; the first word with a clear bit has the lowest unmarked start.
-use Rattle.std.proofs.Common.{◌≡◌, ◌∙◌, sym, arith}
+use Rattle.std.proofs.Common.{◌∙◌, sym, arith}
 use Rattle.uncovered.specs.LowestLaws.{at_lowest, marked_all, refused_length, start_in_rom}
 use Rattle.uncovered.proofs.Words.{lowest_bit}
 use Rattle.uncovered.proofs.lowest_unmarked.Goals as goal

@@ -1,12 +1,7 @@
 -- `lowest_unmarked`: every start in the words passed is marked; the first word with a clear bit has the lowest unmarked start.
-use Rattle.std.proofs.Common.{◌-◌, ◌≡◌, not, ℕ, ◌+◌, ◌*◌, ◌<◌, ◌≤◌, length}
-use Rattle.base.specs.Addresses.{rom_addr}
-use Rattle.certificate.specs.Layout.{certificate_of}
-use Rattle.coverage.specs.Map.{bit_of}
-use Rattle.uncovered.specs.Lowest.{is_start, lowest_of}
+use Rattle.std.proofs.Common.{◌-◌, ◌≡◌, ◌*◌, ◌≤◌, length}
 use Rattle.base.specs.Lengths.{is_certificate_length}
-use Rattle.uncovered.specs.LowestLaws.{at_lowest, marked_all, refused_length, start_in_rom}
-use Rattle.uncovered.proofs.Words.{MarkedBelow, LowestBit, clear_bit, lowest_bit}
+use Rattle.uncovered.proofs.Words.{MarkedBelow}
 use Rattle.std.proofs.Common.{true}
 use Rattle.uncovered.proofs.lowest_unmarked.Given as goal
 

@@ -1,12 +1,10 @@
 -- `others`: below `k` the bits are those of the addresses, from `k` on they are clear.
-use Rattle.std.proofs.Common.{◌-◌, ◌≡◌, not, ℕ, ◌+◌, ◌*◌, ◌<◌, ◌≤◌, length}
-use Rattle.base.specs.Addresses.{rom_addr}
-use Rattle.certificate.specs.Layout.{certificate_of}
-use Rattle.coverage.specs.Map.{bit_of}
-use Rattle.uncovered.specs.Lowest.{is_start, lowest_of}
+use Rattle.std.proofs.Common.{◌-◌, not, ℕ, ◌+◌, ◌*◌, ◌≤◌}
 use Rattle.certificate.specs.Layout.{certificate_of}
 use Rattle.uncovered.specs.Lowest.{is_start}
-use Rattle.uncovered.proofs.Words.{Upto, upto_none, upto_set, upto_kept}
+use Rattle.certificate.specs.Layout.{certificate_of}
+use Rattle.uncovered.specs.Lowest.{is_start}
+use Rattle.uncovered.proofs.Words.{Upto}
 use Rattle.std.proofs.Common.{List, Bool}
 use Rattle.uncovered.proofs.others.Given as goal
 
