@@ -43,8 +43,9 @@ use Rattle.semantics.specs.Refusals.{StepNumber, Stops, step_stops, run_number}
 use Rattle.coverage.specs.Map.{is_map_length}
 use Rattle.coverage.specs.MapLaws.{Words}
 use Rattle.machine.specs.Reached.{covered_run, covered_map}
-use Rattle.machine.specs.CoveredLaws.{covered_number, covered_length, covered_refused, covered_seven}
-use Rattle.machine.specs.Count.{completed_steps, state_behind, total_cost, Counted, run_state, run_counted}
+use Rattle.machine.proofs.CoveredLaws.{covered_number, covered_length, covered_refused, covered_seven}
+use Rattle.machine.specs.Count.{completed_steps, state_behind, total_cost, Counted}
+use Rattle.machine.proofs.CountLaws.{run_state, run_counted}
 use Rattle.hex_line.specs.declared.Reader.{Reader}
 use Rattle.hex_line.specs.Line.{read_line, line_buffer}
 use Rattle.hex_line.proofs.Refusals.{line_number, line_unchanged, length_line_buffer}

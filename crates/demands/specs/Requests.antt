@@ -42,12 +42,12 @@ use Rattle.semantics.specs.Run.{ran, record_at, run_of}
 use Rattle.semantics.specs.Refusals.{step_stops}
 use Rattle.coverage.specs.Map.{map_words, marked, empty_map, joined, marked_count, set_bits}
 use Rattle.coverage.specs.MapLaws.{Words, same_marks, marked_joined, marked_past, set_bits_counted}
-use Rattle.machine.specs.Count.{cost_of}
-use Rattle.machine.specs.EntryLaws.{entry_cost_lem, entry_adds, SameButCycles, other_step, only_cycles, step_above, run_above, covered_above}
-use Rattle.machine.specs.PartLaws.{step_of_other_length, run_of_other_length, covered_of_other_length, fetch_past_rom}
-use Rattle.machine.specs.Reached.{reached, covered_run, covered_map}
-use Rattle.machine.specs.CoveredLaws.{Reaches, mark_stays, completed_marked, no_other_mark, covered_joins, covered_count}
-use Rattle.machine.specs.AppendLaws.{run_in_turn, run_stopped, covered_in_turn, covered_stopped}
+use Rattle.machine.specs.Count.{cost_of, SameButCycles}
+use Rattle.machine.proofs.EntryLaws.{entry_cost_lem, entry_adds, other_step, only_cycles, step_above, run_above, covered_above}
+use Rattle.machine.proofs.PartLaws.{step_of_other_length, run_of_other_length, covered_of_other_length, fetch_past_rom}
+use Rattle.machine.specs.Reached.{Reaches, reached, covered_run, covered_map}
+use Rattle.machine.proofs.CoveredLaws.{mark_stays, completed_marked, no_other_mark, covered_joins, covered_count}
+use Rattle.machine.proofs.AppendLaws.{run_in_turn, run_stopped, covered_in_turn, covered_stopped}
 use Rattle.certificate.specs.declared.NewValue.TheVariants.{Within, Unknown}
 use Rattle.certificate.specs.declared.CodeAccess.{CodeAccess}
 use Rattle.certificate.specs.declared.Flow.TheVariants.{Step, Call}
