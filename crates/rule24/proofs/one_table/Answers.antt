@@ -3,7 +3,7 @@ use Rattle.std.proofs.Common.{below_more, arith, ap, ◌∙◌}
 use Rattle.entries.specs.declared.CellRow.{CellRow}
 use Rattle.rule24.specs.Tables.{in_table, one_table}
 use Rattle.certificate.specs.Layout.{certificate_of}
-use Rattle.base.specs.Formula.{Holds, decide_yes, decide_no, decide_true, decide_false}
+use Rattle.base.specs.Formula.{decide_yes, decide_no, decide_true, decide_false}
 use Rattle.rule24.proofs.one_table.Goals as goal
 
 pub returns-then-not-in_table : goal.returns-then-not-in_table

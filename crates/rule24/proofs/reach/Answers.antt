@@ -1,10 +1,9 @@
 -- A pointer that is not claimed, or reaches past FFH, fails; else its reach is the walk over one table.
-use Rattle.std.proofs.Common.{◌≡◌, ℕ, ◌+◌, Bool, ◌∙◌, ap, arith}
+use Rattle.std.proofs.Common.{ℕ, ◌+◌, Bool, ◌∙◌, ap, arith}
 use Rattle.base.specs.Formula.{decide, decide_no, decide_true}
 use Rattle.certificate.specs.Layout.{certificate_of}
 use Rattle.claims.specs.Laws.{decide_same}
 use Rattle.entries.specs.declared.Entry.{Entry}
-use Rattle.entries.specs.Fields.{entry_of}
 use Rattle.rule24.proofs.Outside.{table_outside}
 use Rattle.rule24.specs.Tables.{one_table, reach_of}
 use Rattle.safety.specs.Rules.{reach, low, high, claimed}

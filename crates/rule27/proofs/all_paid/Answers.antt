@@ -3,7 +3,7 @@ use Rattle.std.proofs.Common.{⊎_elim, below_more, ◌≤◌, ◌<◌, arith}
 use Rattle.base.specs.Formula.{le?}
 use Rattle.claims.specs.Values.{among}
 use Rattle.rule27.specs.Paid.{paid_at, all_paid}
-use Rattle.base.specs.Formula.{Holds, decide_yes, decide_no, decide_true, decide_false}
+use Rattle.base.specs.Formula.{decide_yes, decide_no, decide_true, decide_false}
 use Rattle.rule27.proofs.all_paid.Goals as goal
 
 pub returns-then-not-paid_at : goal.returns-then-not-paid_at

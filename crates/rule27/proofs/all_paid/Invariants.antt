@@ -1,17 +1,8 @@
 -- Every value below the loop counter that is left is paid; the search stops at the first that is not, or behind the high end.
-use Rattle.std.proofs.Common.{◌+◌, ◌-◌, ◌≡◌, ℕ, leb, true, false, ◌*◌, ◌<◌, ◌≤◌, length}
-use Rattle.base.specs.Choice.{pick}
-use Rattle.base.specs.Formula.{decide, neg, eq, ◌⇒◌}
-use Rattle.certificate.specs.Layout.{Certificate, certificate_of}
-use Rattle.entries.specs.Fields.{entry_of}
-use Rattle.safety.specs.Rules.{same_first, bound_after, bound_after_call, opening_cost, row_rule, edges, plain_edge}
-use Rattle.claims.specs.Values.{edge_of}
-use Rattle.rule27.specs.Paid.{one_more_value, one_less_value, after_of, along_of, first_values_of, paid_at, all_paid}
-use Rattle.base.specs.Formula.{le?}
-use Rattle.claims.specs.Values.{among}
-use Rattle.rule27.specs.Paid.{paid_at, all_paid}
-use Rattle.base.specs.Formula.{Holds, decide_yes, decide_no, decide_true, decide_false}
-use Rattle.std.proofs.Common.{take, drop, get_or, set}
+use Rattle.std.proofs.Common.{◌-◌, ◌≡◌, ℕ, ◌<◌, ◌≤◌}
+use Rattle.rule27.specs.Paid.{paid_at}
+use Rattle.rule27.specs.Paid.{paid_at}
+use Rattle.base.specs.Formula.{Holds}
 use Rattle.rule27.proofs.all_paid.Given as goal
 
 abbrev pub invariant-loop-v : goal.invariant-loop-v

@@ -4,9 +4,9 @@ use Rattle.claims.specs.declared.Values.{Values}
 use Rattle.entries.specs.declared.Entry.{Entry}
 use Rattle.safety.specs.Rules.{paid}
 use Rattle.claims.specs.Values.{edge_of}
-use Rattle.rule27.specs.Paid.{after_of, first_values_of, all_paid}
+use Rattle.rule27.specs.Paid.{first_values_of, all_paid}
 use Rattle.rule27.proofs.Laws.{paid_all}
-use Rattle.base.specs.Formula.{decide, decide_yes}
+use Rattle.base.specs.Formula.{decide}
 use Rattle.rule27.proofs.paid.Goals as goal
 
 pub returns : goal.returns
