@@ -17,7 +17,7 @@ use certificate::Verdict;
 use semantics::Ran;
 
 // The verdict on an image and a certificate, and a run of the image from reset.
-#[derive(Drop)]
+#[derive(Clone, Copy)]
 pub struct Trial {
     pub verdict: Verdict,
     pub ran: Ran,

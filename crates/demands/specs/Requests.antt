@@ -592,7 +592,7 @@ refused_before = upper.refused_before
 -- LDCD the pair itself counts as 0 to 255 afterwards, and so does a destination that belongs to the pair. 24 tests this same set in place of the high
 -- half alone. An old certificate that was accepted stays accepted --
 
--- `CodeReaches C a c t` (`Reaches` of `safety` S`CodeRangeLaws`) says that t is in the set: 256 × h + l + offset, h and l over the ranges of both halves at a
+-- `CodeReaches C a c t` (`Reaches` of `safety` S`CodeReach`) says that t is in the set: 256 × h + l + offset, h and l over the ranges of both halves at a
 -- (`low`, `high`). `load_range` is the range of its bytes. Where 24 holds every byte that is reached lies in it
 pub reached_byte_in_range : (C : Certificate) (rom : ℕ) (image : List ℕ) (a : ℕ) → length image ≡ rom → (c : CodeAccess) → Holds (code_in_rom C rom a c)
     → (t : ℕ) → CodeReaches C a c t → ((load_range C image a c).least ≤ get_or image t 0) × (get_or image t 0 ≤ (load_range C image a c).greatest)
