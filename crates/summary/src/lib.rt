@@ -3,7 +3,7 @@
 
 ghost use Rattle.std.specs.Prelude.{◌≡◌};
 ghost use Rattle.certificate.specs.Summaries.{write_to, binary_value, flag_effect, binary_flags, binary_summary, modify_value, load_summary};
-ghost use Rattle.certificate.specs.Summaries.{code_access, onward, summary_of, reaching as reachingOf};
+ghost use Rattle.certificate.specs.Summaries.{code_access, onward, summary_of, reaching as reaching_of};
 ghost use Rattle.certificate.specs.Layout.{certificate_of};
 ghost use Rattle.safety.specs.CodeRange.{load_range};
 ghost use Rattle.alu.specs.Operations.{stores};
@@ -55,7 +55,7 @@ fn moving(w: Write, f: Access, s: Access, g: FlagEffect, k: StackEffect) -> Summ
 }
 
 fn reaching(w: Write, c: CodeAccess, g: FlagEffect) -> Summary
-    ensures { result ≡ reachingOf w c g }
+    ensures { result ≡ reaching_of w c g }
 {
     Summary {
         write: w,
@@ -344,7 +344,7 @@ fn load_code(
     c: CodeAddress,
     g: FlagEffect,
 ) -> Summary
-    ensures { result ≡ reachingOf (Write.Register d (Within (load_range (certificate_of cert.now) image.now a.0 (code_access c)))) (code_access c) g }
+    ensures { result ≡ reaching_of (Write.Register d (Within (load_range (certificate_of cert.now) image.now a.0 (code_access c)))) (code_access c) g }
 {
     let from = code_access(c);
     let q = code_range::load_range(image, cert, a, from);
@@ -360,7 +360,7 @@ fn load_code_step(
     p: RegAddr,
     g: FlagEffect,
 ) -> Summary
-    ensures { result ≡ reachingOf (Write.RegisterAndPair d (load_range (certificate_of cert.now) image.now a.0 (CodeAccess.Pair p 0 0)) p) (CodeAccess.Pair p 0 0) g }
+    ensures { result ≡ reaching_of (Write.RegisterAndPair d (load_range (certificate_of cert.now) image.now a.0 (CodeAccess.Pair p 0 0)) p) (CodeAccess.Pair p 0 0) g }
 {
     let from = CodeAccess::Pair(p, 0, 0);
     let q = code_range::load_range(image, cert, a, from);
