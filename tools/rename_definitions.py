@@ -48,7 +48,8 @@ def read(path):
 def turned(name):
     if name[0].isupper():
         return name
-    return re.sub(r"(?<=[a-z0-9])[A-Z]", lambda m: "_" + m[0].lower(), name).replace("-", "_")
+    words = re.sub(r"(?<=[a-z0-9])(?=[A-Z])|(?<=[A-Z])(?=[A-Z][a-z])", "_", name)
+    return words.lower().replace("-", "_")
 
 
 def declared(top):

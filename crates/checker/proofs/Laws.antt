@@ -81,5 +81,5 @@ Promised P image cert v =
 
 pub verdict : (p : Profile) (image cert : List ℕ) (v : Verdict) → ((i : ℕ) → get_or image i 0 < 256) → ((i : ℕ) → get_or cert i 0 < 256)
     → v ≡ verdict_of (part_of p).rom image cert → Promised (part_of p) image cert v
-verdict p image cert v imageBytes certBytes e =
-    (e, (rw e (exact (part_of p).rom image cert), λ h. demand3 (part_of p) (rom_fits p) image cert imageBytes certBytes (sym e ∙ h)))
+verdict p image cert v image_bytes cert_bytes e =
+    (e, (rw e (exact (part_of p).rom image cert), λ h. demand3 (part_of p) (rom_fits p) image cert image_bytes cert_bytes (sym e ∙ h)))

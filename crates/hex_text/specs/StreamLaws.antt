@@ -18,10 +18,10 @@ unfolding feed_stream feed_buffer
 fed_one {n} {s₀} {t} {m₀} {s} {at} {m} f h e p q =
     let w = drop-cons t at 0 h in
     let c = get_or t at 0 in
-    let stream-one : feed_stream n s (drop at t) ≡ feed_stream n (push_stream n s c) (drop (at + 1) t) = rw (w, add-one at) in
-    let buffer-one : feed_buffer s (drop at t) m ≡ feed_buffer (push_stream (length m) s c) (drop (at + 1) t) (push_buffer s c m) =
+    let stream_one : feed_stream n s (drop at t) ≡ feed_stream n (push_stream n s c) (drop (at + 1) t) = rw (w, add-one at) in
+    let buffer_one : feed_buffer s (drop at t) m ≡ feed_buffer (push_stream (length m) s c) (drop (at + 1) t) (push_buffer s c m) =
     rw (w, add-one at) in
-    record { stream = f.stream ∙ (stream-one ∙ rw p); buffer = f.buffer ∙ (buffer-one ∙ rw (e, p, q)) }
+    record { stream = f.stream ∙ (stream_one ∙ rw p); buffer = f.buffer ∙ (buffer_one ∙ rw (e, p, q)) }
 
 -- no character is left
 pub fed_all : {n : ℕ} {s₀ : Stream} {t m₀ : List ℕ} {s : Stream} {at : ℕ} {m : List ℕ} → FedUpTo n s₀ t m₀ s at m → length t ≤ at

@@ -121,13 +121,13 @@ row_columns =
 abbrev pub row_column : ℕ → Cell
 row_column l = choose l row_columns inc_work
 
-abbrev pub column_fRows : List (ℕ × Cell)
-column_fRows =
+abbrev pub column_f_rows : List (ℕ × Cell)
+column_f_rows =
     (6, implied Idle) ∷ (7, implied Stop) ∷ (8, implied Di) ∷ (9, implied Ei) ∷ (10, implied Ret) ∷ (11, implied Iret)
     ∷ (12, implied Rcf) ∷ (13, implied Scf) ∷ (14, implied Ccf) ∷ (15, implied Nop) ∷ []
 
 abbrev pub column_f : ℕ → Cell
-column_f h = choose h column_fRows empty
+column_f h = choose h column_f_rows empty
 
 -- the cell at column l, row h
 abbrev pub cell_at : ℕ → ℕ → Cell

@@ -1,7 +1,7 @@
 -- One name that opens every definition which the cases compute through: the machine's, the rules', what is printed, and image P.
 -- Assumes nothing.
 use Rattle.std.specs.Prelude.{ℕ}
-use Rattle.semantics.specs.Opened.{opened as stepOpened}
+use Rattle.semantics.specs.Opened.{opened as step_opened}
 use Rattle.safety.specs.Opened.{opened as rules_opened}
 use Rattle.rule20.specs.Parts.{cells_rule, starts_rule, main_rule, service_rule, fixed_rule}
 use Rattle.report.specs.Report.{decimal, number_text, row_text, rows_text, accepted_text, refused_text}
@@ -17,5 +17,5 @@ unfolding decimal number_text row_text rows_text accepted_text refused_text imag
 text_opened = 0
 
 unfoldable pub opened : ℕ
-unfolding stepOpened rules_opened parts_opened text_opened
+unfolding step_opened rules_opened parts_opened text_opened
 opened = 0

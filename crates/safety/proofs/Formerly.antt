@@ -185,10 +185,10 @@ high_byte cert h a x =
 pub still_accepted : (rom : ℕ) (image cert : List ℕ) → Bytes image → Bytes cert → verdict_formerly rom image cert ≡ Accepted
     → verdict_of rom image cert ≡ Accepted
 unfolding summary_at
-still_accepted rom image cert imageBytes certBytes h =
+still_accepted rom image cert image_bytes cert_bytes h =
     let C = certificate_of cert in
     let p = accepted_lengths former_rules rom image cert h in
     let r = accepted_rules former_rules rom C image (λ a. ascending_with _ _ _ _ _ _ _) p.1 in
     accepted_when rom image cert (unbroken rom image cert p.0 r.0 (λ a l s.
-    rules_still C a rom (high_byte cert certBytes a) (former_summary image a) (summary_at C image a)
-    (summary_tighter C a (load_range C image a) (loaded_byte C image a imageBytes) (decode_at image a)) (next_at image a) (cost_at image a) (r.1 a l s)))
+    rules_still C a rom (high_byte cert cert_bytes a) (former_summary image a) (summary_at C image a)
+    (summary_tighter C a (load_range C image a) (loaded_byte C image a image_bytes) (decode_at image a)) (next_at image a) (cost_at image a) (r.1 a l s)))

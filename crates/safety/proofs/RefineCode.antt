@@ -192,7 +192,7 @@ module _ (rom : ℕ) (C : Certificate) (image : List ℕ) (gl : Global C image) 
       let g = loaded_holds C rom image a size c h A k in
       let w = (word_at (store_of r d.0 v) rec p.0 + pick up 1 65535) % 65536 in
       let hp = mapped_byte (p.0 + 1) m.1.1.1.1.0 in
-      let next-cell : p.0 + 1 ≡ (p.0 + 1) % 256 = omega arith in
+      let next_cell : p.0 + 1 ≡ (p.0 + 1) % 256 = omega arith in
       let after : Written C a (Write.RegisterAndPair d (load c) p) r (three r d.0 p.0 (p.0 + 1) v (w / 256) (w % 256))
       = pair_written d (load c) p v (w / 256) (w % 256) (is_writable C a d.0 e m.1.0) (is_writable C a p.0 e m.1.1.1.0)
       (is_writable C a (p.0 + 1) e m.1.1.1.1.1) g.0 g.1 (bytes A) (omega arith) (omega arith) in
@@ -202,6 +202,6 @@ module _ (rom : ℕ) (C : Certificate) (image : List ℕ) (gl : Global C image) 
         counter = rw (condition_never (at r flags_cell));
         refines =
             refines_reaching (Write.RegisterAndPair d (load c) p) c (three r d.0 p.0 ((p.0 + 1) % 256) v (w / 256) (w % 256))
-            (subst (λ (q : ℕ). Written C a (Write.RegisterAndPair d (load c) p) r (three r d.0 p.0 q v (w / 256) (w % 256))) next-cell after);
+            (subst (λ (q : ℕ). Written C a (Write.RegisterAndPair d (load c) p) r (three r d.0 p.0 q v (w / 256) (w % 256))) next_cell after);
         pointers = hA;
       }

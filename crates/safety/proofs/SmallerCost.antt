@@ -64,5 +64,5 @@ module _ (rom : ℕ) (image cert : List ℕ) (x y : ℕ) (short : length cert �
 -- so demand 3 is met with fewer
 pub smaller_cost_safe : (P : Part) → P.rom ≤ largest_rom → (image cert : List ℕ) (x y : ℕ) → length cert ≡ short_certificate_length → y ≤ x
     → verdict_of P.rom image (cert ++ (x ∷ [])) ≡ Accepted → Bytes image → Bytes (cert ++ (y ∷ [])) → Demand3 P (certificate_of (cert ++ (y ∷ []))) image
-smaller_cost_safe P fits image cert x y short fewer h imageBytes certBytes =
-    demand3 P fits image _ imageBytes certBytes (smaller_cost P.rom image cert x y short fewer h)
+smaller_cost_safe P fits image cert x y short fewer h image_bytes cert_bytes =
+    demand3 P fits image _ image_bytes cert_bytes (smaller_cost P.rom image cert x y short fewer h)

@@ -21,8 +21,8 @@ compare_byte b h a = part_bytes b h 0 14 largest_rom a 13
 -- the theorem: an accepted image and certificate meet demand 3 on the part of whose ROM the verdict speaks
 pub demand3 : (P : Part) → P.rom ≤ largest_rom → (image cert : List ℕ) → ((i : ℕ) → get_or image i 0 < 256) → ((i : ℕ) → get_or cert i 0 < 256)
     → verdict_of P.rom image cert ≡ Accepted → Demand3 P (certificate_of cert) image
-demand3 P fits image cert imageBytes certBytes h =
+demand3 P fits image cert image_bytes cert_bytes h =
     let p = accepted_lengths rules_at P.rom image cert h in
     let C = certificate_of cert in
     let ok = accepts P.rom C image p.1 in
-    demand_met P C image fits ok (certificate_facts P.rom C image ok (compare_byte cert certBytes)) p.0.0 imageBytes
+    demand_met P C image fits ok (certificate_facts P.rom C image ok (compare_byte cert cert_bytes)) p.0.0 image_bytes
