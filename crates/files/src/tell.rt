@@ -66,8 +66,12 @@ fn print_malformed(errors: &mut impl Write, finding: Finding) -> io::Result<()> 
 // What was found, and what should stand there: bytes have two digits, addresses four or five.
 fn print_finding(errors: &mut impl Write, finding: Finding) -> io::Result<()> {
     match finding {
-        Finding::Sum(found, right) => write!(errors, "sum {found:02X}, should be {right:02X}"),
-        Finding::Type(found) => write!(errors, "type {found:02X}, should be 00 or 01"),
+        Finding::Sum(found, right) => write!(
+            errors,
+            "sum {:02X}, should be {right:02X}",
+            found % 256
+        ),
+        Finding::Type(found) => write!(errors, "type {:02X}, should be 00 or 01", found % 256),
         Finding::Address(found, right) => {
             write!(errors, "address {found:04X}, should be {right:04X} or more")
         }
