@@ -1,16 +1,18 @@
 // What an instruction does, by the shape of its operands: the machine and the checker work on these kinds and not on 198 codes.
 #![tactic(auto)]
 
-ghost use Rattle.std.specs.Prelude.{◌≡◌};
-ghost use Rattle.action.specs.Action.{work_of, load_code, load_code_step, load_code_direct, implied_action, action_of};
+ghost use Rattle.std.specs.Prelude.{◌≡◌, ◌%◌, ◌==◌};
+ghost use Rattle.base.specs.Choice.{pick};
+ghost use Rattle.action.specs.Action.{work_of, implied_action, action_of};
 
-use crate::Action::{Binary, Load, Modify, Pop, Push};
+use crate::Action::{Binary, Load, LoadCode, LoadCodeStep, Modify, Pop, Push};
+use crate::CodeAddress::{Direct, Long, Short};
 use crate::Operand::{Immediate, Indirect, Register};
 use base::{RegAddr, RomAddr, displaced};
 use isa::{Alu, Implied, Instruction, Unary};
 
 // A byte operand: a register; the register that another one points to, with an offset; or a number.
-#[derive(Clone, Copy)]
+#[derive(Clone, Copy, Debug, PartialEq, Eq)]
 pub enum Operand {
     Register(RegAddr),
     Indirect(RegAddr, u8),
@@ -19,7 +21,7 @@ pub enum Operand {
 
 // An address of program memory in the LDC group: direct; or a register pair, high half first, with an offset that is signed (8 bits) or not
 // (16 bits).
-#[derive(Clone, Copy)]
+#[derive(Clone, Copy, Debug, PartialEq, Eq)]
 pub enum CodeAddress {
     Direct(RomAddr),
     Short(RegAddr, u8),
@@ -27,7 +29,7 @@ pub enum CodeAddress {
 }
 
 // What RCF, SCF and CCF do to C.
-#[derive(Clone, Copy)]
+#[derive(Clone, Copy, Debug, PartialEq, Eq)]
 pub enum CarryChange {
     Reset,
     Set,
@@ -35,7 +37,7 @@ pub enum CarryChange {
 }
 
 // An instruction's action, destination first.
-#[derive(Clone, Copy)]
+#[derive(Clone, Copy, Debug, PartialEq, Eq)]
 pub enum Action {
     Binary(Alu, Operand, Operand),
     Modify(Unary, Operand),
@@ -70,36 +72,14 @@ fn work(r: u8) -> RegAddr
     RegAddr(192 + r % 16)
 }
 
-// LDC; LDE where the pair is odd.
-fn load_code(r: u8, pair: u8, from: CodeAddress) -> Action
-    ensures { result ≡ load_code r pair from }
+// What the LDC group does through a register pair; an odd pair means LDE.
+fn through(pair: u8, action: Action) -> Action
+    ensures { result ≡ pick (pair % 2 == 0) action Action.External }
 {
     if pair % 2 == 0 {
-        Action::LoadCode(work(r), from)
+        action
     } else {
         Action::External
-    }
-}
-
-// LDCI and LDCD; LDE's where the pair is odd.
-fn load_code_step(r: u8, pair: u8, up: bool) -> Action
-    ensures { result ≡ load_code_step r pair up }
-{
-    if pair % 2 == 0 {
-        Action::LoadCodeStep(work(r), work(pair), up)
-    } else {
-        Action::External
-    }
-}
-
-// LDC from a direct address, or LDE.
-fn load_code_direct(r: u8, external: bool, at: RomAddr) -> Action
-    ensures { result ≡ load_code_direct r external at }
-{
-    if external {
-        Action::External
-    } else {
-        Action::LoadCode(work(r), CodeAddress::Direct(at))
     }
 }
 
@@ -150,21 +130,22 @@ pub fn action_of(i: Instruction, next: RomAddr) -> Action
         Instruction::LoadWorkReg(d, s) => Load(Register(work(d)), Register(s)),
         Instruction::LoadRegWork(d, s) => Load(Register(d), Register(work(s))),
         Instruction::LoadWorkImm(d, n) => Load(Register(work(d)), Immediate(n)),
-        Instruction::LdcLoad(r, p) => load_code(r, p, CodeAddress::Short(work(p), 0)),
-        Instruction::LdcStore(r, p) => Action::External,
-        Instruction::LdcDec(r, p) => load_code_step(r, p, false),
-        Instruction::LdcInc(r, p) => load_code_step(r, p, true),
-        Instruction::LdcLoadShort(r, p, x) => load_code(r, p, CodeAddress::Short(work(p), x)),
-        Instruction::LdcStoreShort(r, p, x) => Action::External,
-        Instruction::LdcLoadLong(r, p, x) => load_code(r, p, CodeAddress::Long(work(p), x)),
-        Instruction::LdcStoreLong(r, p, x) => Action::External,
-        Instruction::LdcLoadDirect(r, e, at) => load_code_direct(r, e, at),
-        Instruction::LdcStoreDirect(r, e, at) => Action::External,
+        Instruction::LdcLoad(r, p) => through(p, LoadCode(work(r), Short(work(p), 0))),
+        Instruction::LdcLoadShort(r, p, x) => through(p, LoadCode(work(r), Short(work(p), x))),
+        Instruction::LdcLoadLong(r, p, x) => through(p, LoadCode(work(r), Long(work(p), x))),
+        Instruction::LdcLoadDirect(r, false, at) => LoadCode(work(r), Direct(at)),
+        Instruction::LdcDec(r, p) => through(p, LoadCodeStep(work(r), work(p), false)),
+        Instruction::LdcInc(r, p) => through(p, LoadCodeStep(work(r), work(p), true)),
+        Instruction::LdcStore(_, _)
+        | Instruction::LdcStoreShort(_, _, _)
+        | Instruction::LdcStoreLong(_, _, _)
+        | Instruction::LdcLoadDirect(_, true, _)
+        | Instruction::LdcStoreDirect(_, _, _) => Action::External,
         Instruction::JumpRel(cc, x) => Action::Jump(cc, RomAddr(displaced(next.0, x))),
         Instruction::Jump(cc, to) => Action::Jump(cc, to),
         Instruction::JumpAt(p) => Action::JumpPair(p),
         Instruction::Call(to) => Action::Call(to),
         Instruction::CallAt(p) => Action::CallPair(p),
-        Instruction::Implied(i1) => implied_action(i1),
+        Instruction::Implied(op) => implied_action(op),
     }
 }

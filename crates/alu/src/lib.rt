@@ -3,13 +3,13 @@
 
 ghost use Rattle.std.specs.Prelude.{◌≡◌, ◌*◌, ◌%◌, ◌<◌, ◌≤◌};
 ghost use Rattle.base.specs.Choice.{pick};
-ghost use Rattle.alu.specs.Flags.{carry, zero_flag, sign_flag, overflow_flag, flags_byte, update};
-ghost use Rattle.alu.specs.Operations.{biased, overflows, addition, subtraction, logical, operate, stores, increment, decrement, rotation, shift_right, modify};
+ghost use Rattle.alu.specs.Flags.{flags_byte, update};
+ghost use Rattle.alu.specs.Operations.{is_zero, is_negative, biased, overflows, addition, subtraction, logical, operate, stores, increment, decrement, rotation, shift_right, modify};
 
 use isa::{Alu, FlagSet, Unary};
 
 // An operation's result, and a FLAGS byte with its flags.
-#[derive(Clone, Copy)]
+#[derive(Clone, Copy, Debug, PartialEq, Eq)]
 pub struct Computed {
     pub value: u8,
     pub flags: u8,
@@ -21,35 +21,6 @@ fn weight(b: bool, w: u8) -> u8
     ensures bounded { result ≤ w }
 {
     if b { w } else { 0 }
-}
-
-// The flags of a FLAGS byte.
-#[tactic(auto, unfolding(crate::specs::Flags::carry, isa::specs::Flags::flag_in))]
-pub fn carry(flags: u8) -> bool
-    ensures { result ≡ carry flags }
-{
-    flags / 128 % 2 == 1
-}
-
-#[tactic(auto, unfolding(crate::specs::Flags::zero_flag, isa::specs::Flags::flag_in))]
-pub fn zero_flag(flags: u8) -> bool
-    ensures { result ≡ zero_flag flags }
-{
-    flags / 64 % 2 == 1
-}
-
-#[tactic(auto, unfolding(crate::specs::Flags::sign_flag, isa::specs::Flags::flag_in))]
-pub fn sign_flag(flags: u8) -> bool
-    ensures { result ≡ sign_flag flags }
-{
-    flags / 32 % 2 == 1
-}
-
-#[tactic(auto, unfolding(crate::specs::Flags::overflow_flag, isa::specs::Flags::flag_in))]
-pub fn overflow_flag(flags: u8) -> bool
-    ensures { result ≡ overflow_flag flags }
-{
-    flags / 16 % 2 == 1
 }
 
 // The FLAGS byte with these flags.
@@ -69,13 +40,25 @@ pub fn update(flags: u8, names: FlagSet, x: u8) -> u8
     (flags & (0xF0 ^ n)) | (x & n)
 }
 
+impl Computed {
+    // A value with its Z and S, and with this C and V.
+    fn new(value: u8, c: bool, v: bool) -> Computed
+        ensures { result ≡ record { value = value; flags = flags_byte c (is_zero value) (is_negative value) v } }
+    {
+        Computed {
+            value,
+            flags: flags_byte(c, value == 0, 128 <= value, v),
+        }
+    }
+}
+
 // The signed value of a byte, plus 128.
 #[tactic(auto, unfolding(crate::specs::Operations::biased))]
 fn biased(x: u8) -> u16
     ensures value { result ≡ biased x }
     ensures bounded { result < 256 }
 {
-    std::num::wrapping_add_u8(x, 128) as u16
+    u16::from(x.wrapping_add(128))
 }
 
 // Whether a signed result, plus 256, leaves -128 to 127.
@@ -83,7 +66,7 @@ fn biased(x: u8) -> u16
 fn overflows(n: u16) -> bool
     ensures { result ≡ overflows n }
 {
-    (n < 128) | (384 <= n)
+    n < 128 || 384 <= n
 }
 
 // x + y + k, k at most 1; C is the carry out of bit 7.
@@ -92,14 +75,10 @@ fn addition(x: u8, y: u8, k: u8) -> Computed
     requires { k ≤ 1 }
     ensures { result ≡ addition x y k }
 {
-    let part = std::num::wrapping_add_u8(x, y);
-    let value = std::num::wrapping_add_u8(part, k);
-    let c = 256 <= (x as u16) + (y as u16) + (k as u16);
-    let v = overflows(biased(x) + biased(y) + (k as u16));
-    Computed {
-        value: value,
-        flags: flags_byte(c, value == 0, 128 <= value, v),
-    }
+    let value = x.wrapping_add(y).wrapping_add(k);
+    let c = 256 <= u16::from(x) + u16::from(y) + u16::from(k);
+    let v = overflows(biased(x) + biased(y) + u16::from(k));
+    Computed::new(value, c, v)
 }
 
 // x - y - k, k at most 1; C is the borrow.
@@ -108,14 +87,10 @@ fn subtraction(x: u8, y: u8, k: u8) -> Computed
     requires { k ≤ 1 }
     ensures { result ≡ subtraction x y k }
 {
-    let part = std::num::wrapping_sub_u8(x, y);
-    let value = std::num::wrapping_sub_u8(part, k);
-    let c = (x as u16) < (y as u16) + (k as u16);
-    let v = overflows(biased(x) + 256 - (biased(y) + (k as u16)));
-    Computed {
-        value: value,
-        flags: flags_byte(c, value == 0, 128 <= value, v),
-    }
+    let value = x.wrapping_sub(y).wrapping_sub(k);
+    let c = u16::from(x) < u16::from(y) + u16::from(k);
+    let v = overflows(biased(x) + 256 - (biased(y) + u16::from(k)));
+    Computed::new(value, c, v)
 }
 
 // A logical operation's result: V is 0; C, which it does not name, is 0 here and not used.
@@ -123,10 +98,7 @@ fn subtraction(x: u8, y: u8, k: u8) -> Computed
 fn logical(value: u8) -> Computed
     ensures { result ≡ logical value }
 {
-    Computed {
-        value: value,
-        flags: flags_byte(false, value == 0, 128 <= value, false),
-    }
+    Computed::new(value, false, false)
 }
 
 // An operation on two bytes: x the destination's, y the source's, c the carry before.
@@ -136,14 +108,12 @@ pub fn operate(op: Alu, x: u8, y: u8, c: bool) -> Computed
 {
     match op {
         Alu::Add => addition(x, y, 0),
-        Alu::Adc => addition(x, y, weight(c, 1)),
-        Alu::Sub => subtraction(x, y, 0),
-        Alu::Sbc => subtraction(x, y, weight(c, 1)),
+        Alu::Adc => addition(x, y, u8::from(c)),
+        Alu::Sub | Alu::Cp => subtraction(x, y, 0),
+        Alu::Sbc => subtraction(x, y, u8::from(c)),
         Alu::Or => logical(x | y),
-        Alu::And => logical(x & y),
-        Alu::Tcm => logical((255 - x) & y),
-        Alu::Tm => logical(x & y),
-        Alu::Cp => subtraction(x, y, 0),
+        Alu::And | Alu::Tm => logical(x & y),
+        Alu::Tcm => logical(!x & y),
         Alu::Xor => logical(x ^ y),
     }
 }
@@ -153,18 +123,7 @@ pub fn operate(op: Alu, x: u8, y: u8, c: bool) -> Computed
 pub fn stores(op: Alu) -> bool
     ensures { result ≡ stores op }
 {
-    match op {
-        Alu::Add => true,
-        Alu::Adc => true,
-        Alu::Sub => true,
-        Alu::Sbc => true,
-        Alu::Or => true,
-        Alu::And => true,
-        Alu::Tcm => false,
-        Alu::Tm => false,
-        Alu::Cp => false,
-        Alu::Xor => true,
-    }
+    !matches!(op, Alu::Tcm | Alu::Tm | Alu::Cp)
 }
 
 // INC; C is not used.
@@ -172,11 +131,7 @@ pub fn stores(op: Alu) -> bool
 fn increment(x: u8) -> Computed
     ensures { result ≡ increment x }
 {
-    let value = std::num::wrapping_add_u8(x, 1);
-    Computed {
-        value: value,
-        flags: flags_byte(false, value == 0, 128 <= value, x == 127),
-    }
+    Computed::new(x.wrapping_add(1), false, x == 127)
 }
 
 // DEC; C is not used.
@@ -184,11 +139,7 @@ fn increment(x: u8) -> Computed
 fn decrement(x: u8) -> Computed
     ensures { result ≡ decrement x }
 {
-    let value = std::num::wrapping_sub_u8(x, 1);
-    Computed {
-        value: value,
-        flags: flags_byte(false, value == 0, 128 <= value, x == 128),
-    }
+    Computed::new(x.wrapping_sub(1), false, x == 128)
 }
 
 // A rotation of x that gives value: C is the bit that left; V where bit 7 changes.
@@ -196,10 +147,7 @@ fn decrement(x: u8) -> Computed
 fn rotation(x: u8, value: u8, c: bool) -> Computed
     ensures { result ≡ rotation x value c }
 {
-    Computed {
-        value: value,
-        flags: flags_byte(c, value == 0, 128 <= value, value / 128 != x / 128),
-    }
+    Computed::new(value, c, value / 128 != x / 128)
 }
 
 // SRA.
@@ -207,11 +155,7 @@ fn rotation(x: u8, value: u8, c: bool) -> Computed
 fn shift_right(x: u8) -> Computed
     ensures { result ≡ shift_right x }
 {
-    let value = x / 2 + x / 128 * 128;
-    Computed {
-        value: value,
-        flags: flags_byte(x % 2 == 1, value == 0, 128 <= value, false),
-    }
+    Computed::new(x / 2 + x / 128 * 128, x % 2 == 1, false)
 }
 
 // Twice x modulo 256: x moved one place to the left.
@@ -229,9 +173,9 @@ pub fn modify(op: Unary, x: u8, c: bool) -> Computed
 {
     match op {
         Unary::Dec => decrement(x),
-        Unary::Rlc => rotation(x, doubled(x) + weight(c, 1), 128 <= x),
+        Unary::Rlc => rotation(x, doubled(x) + u8::from(c), 128 <= x),
         Unary::Inc => increment(x),
-        Unary::Com => logical(255 - x),
+        Unary::Com => logical(!x),
         Unary::Rl => rotation(x, doubled(x) + x / 128, 128 <= x),
         Unary::Clr => Computed { value: 0, flags: 0 },
         Unary::Rrc => rotation(x, x / 2 + weight(c, 128), x % 2 == 1),

@@ -1,6 +1,6 @@
 -- What a call answers: a value, or a refusal by its number in the table of answers.
 -- Assumes nothing.
-use Rattle.std.specs.Prelude.{ℕ}
+use Rattle.std.specs.Prelude.{ℕ, Result, Ok, Err}
 
 pub data Outcome (A : Type 0) : Type 0 where
   value : A → Outcome A
@@ -15,3 +15,8 @@ and_then (refused n) f = refused n
 abbrev pub on_outcome {ℓ} : {A : Type 0} {B : Type ℓ} → Outcome A → (A → B) → (ℕ → B) → B
 on_outcome (value a) f g = f a
 on_outcome (refused n) f g = g n
+
+-- what a call's result tells, by its error's number
+abbrev pub outcome_by : {A E : Type 0} → (E → ℕ) → Result A E → Outcome A
+outcome_by number (Ok a) = value a
+outcome_by number (Err e) = refused (number e)

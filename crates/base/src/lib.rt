@@ -3,17 +3,20 @@
 // meant.
 #![tactic(auto)]
 
-ghost use Rattle.std.specs.Prelude.{◌≡◌, ◌≤◌, ◌==◌, slice_index};
+ghost use Rattle.std.specs.Prelude.{◌≡◌, ◌+◌, ◌*◌, ◌≤◌, ◌==◌, slice_index};
 ghost use Rattle.base.specs.Addresses.{displaced};
 ghost use Rattle.base.specs.Lengths.{largest_rom, is_certificate_length, is_entry_cost};
 ghost use Rattle.base.specs.Parts.{part_of, is_image_length};
 
+use std::error::Error;
+use std::fmt;
+
 // An address of the register file, 00H to FFH.
-#[derive(Clone, Copy)]
+#[derive(Clone, Copy, Debug, PartialEq, Eq)]
 pub struct RegAddr(pub u8);
 
 // An address of program memory.
-#[derive(Clone, Copy)]
+#[derive(Clone, Copy, Debug, PartialEq, Eq)]
 pub struct RomAddr(pub u16);
 
 // The addresses of FLAGS, SP and SYM (interrupt enable).
@@ -33,7 +36,7 @@ pub const SYM_INDEX: usize = SYM as usize;
 pub const STOPCON_INDEX: usize = 0xF4;
 
 // A part of the family, by the bytes of its ROM: the S3F9454 has 4K, the S3C9444 2K.
-#[derive(Clone, Copy)]
+#[derive(Clone, Copy, Debug, PartialEq, Eq)]
 pub enum Profile {
     Rom4K,
     Rom2K,
@@ -112,6 +115,34 @@ pub fn is_entry_cost(n: u8) -> bool
     ensures { result ≡ is_entry_cost n }
 {
     n <= GREATEST_ENTRY_COST
+}
+
+// Refusal 7: a slice of wrong or too short length, or a number that a call does not take.
+#[derive(Clone, Copy, Debug, PartialEq, Eq)]
+pub struct InvalidArgument;
+
+impl fmt::Display for InvalidArgument {
+    fn fmt<W: fmt::Write>(&self, f: &mut fmt::Formatter<W>) -> fmt::Result {
+        f.write_str("a slice of wrong length, or a number that is not taken")
+    }
+}
+
+impl Error for InvalidArgument {}
+
+// The number of a refusal in the table of answers.
+impl From<InvalidArgument> for u8 {
+    ghost from_gives = { λ _ number. number ≡ 7 };
+
+    fn from(_refusal: InvalidArgument) -> u8 {
+        7
+    }
+}
+
+// Two bytes as a word, high half first.
+pub fn word(high: u8, low: u8) -> u16
+    ensures { result ≡ high * 256 + low }
+{
+    u16::from_be_bytes([high, low])
 }
 
 // The byte at a position, 0 past the end.

@@ -5,8 +5,7 @@ use base::{IMAGE_4K, RECORD_LENGTH};
 use semantics::State;
 use std::io;
 use std::rt::Env;
-use test_support::{print, print_hex, print_number, put};
-use xorshift::Filled;
+use test_support::put;
 
 // The records of one call of `run`, and their bytes.
 pub const PART: usize = 1000;
@@ -37,55 +36,44 @@ fn mixed_program(image: &mut [u8; IMAGE_4K], enable: u8) {
     put(image, 0x180, b"\x70\xC0\xE6\xE8\x00\x0E\x50\xC0\xBF");
 }
 
-// A group's place in the table below.
-fn row_of(what: u64) -> u8 {
-    match what {
-        4..=13 => (what - 3) as u8,
-        _ => 0,
-    }
-}
+// The groups of instructions, each in a loop, and filled up with the byte of the empty image.
+const GROUPS: [&[u8; 24]; 11] = [
+    // Others: INC R0; ADD R1,R2; JR
+    b"\x0E\x02\x12\x8B\xFB\xFF\xFF\xFF\xFF\xFF\xFF\xFF\xFF\xFF\xFF\xFF\xFF\xFF\xFF\xFF\xFF\xFF\xFF\xFF",
+    // 4: LD R1,R2; LD 10H,R2; LD R3,#05H; LD 11H,10H; LD 12H,#07H; JR to the start
+    b"\x18\xC2\x29\x10\x3C\x05\xE4\x10\x11\xE6\x12\x07\x8B\xF2\xFF\xFF\xFF\xFF\xFF\xFF\xFF\xFF\xFF\xFF",
+    // 5: ADD R1,R2; ADC 11H,10H; SUB R3,#05H; OR R4,R5; AND 11H,10H; CP R4,#20H; XOR R5,R6; TM R2,#01H; JR
+    b"\x02\x12\x14\x10\x11\x26\xC3\x05\x42\x45\x54\x10\x11\xA6\xC4\x20\xB2\x56\x76\xC2\x01\x8B\xE9\xFF",
+    // 6: INC R1; DEC R2; RL R3; RR R4; RLC R5; RRC R6; SRA R7; COM R8; JR
+    b"\x1E\x00\xC2\x90\xC3\xE0\xC4\x10\xC5\xC0\xC6\xD0\xC7\x60\xC8\x8B\xEF\xFF\xFF\xFF\xFF\xFF\xFF\xFF",
+    // 7: LD R2,#10H; LD R3,@R2; LD @R2,R3; ADD R4,@R2; INC @R2; JR
+    b"\x2C\x10\xC7\x32\xD7\x23\x03\x42\x21\xC2\x8B\xF4\xFF\xFF\xFF\xFF\xFF\xFF\xFF\xFF\xFF\xFF\xFF\xFF",
+    // 8: LD R3,05H[R2]; LD 06H[R2],R3; JR
+    b"\x87\x32\x05\x97\x32\x06\x8B\xF8\xFF\xFF\xFF\xFF\xFF\xFF\xFF\xFF\xFF\xFF\xFF\xFF\xFF\xFF\xFF\xFF",
+    // 9: LD SP,#C0H; PUSH R4; PUSH R5; POP R6; POP R7; JR
+    b"\xE6\xD9\xC0\x70\xC4\x70\xC5\x50\xC6\x50\xC7\x8B\xF3\xFF\xFF\xFF\xFF\xFF\xFF\xFF\xFF\xFF\xFF\xFF",
+    // 10: LD SP,#C0H; CALL 0140H; JR to CALL
+    b"\xE6\xD9\xC0\xF6\x01\x40\x8B\xFB\xFF\xFF\xFF\xFF\xFF\xFF\xFF\xFF\xFF\xFF\xFF\xFF\xFF\xFF\xFF\xFF",
+    // 11: LD R4,#01H; LDC R3,@RR4; LDCI R3,@RR4; LDC R3,05H[RR4]; LDC R3,0100H; JR
+    b"\x4C\x01\xC3\x34\xE3\x34\xE7\x34\x05\xA7\x30\x00\x01\x8B\xF1\xFF\xFF\xFF\xFF\xFF\xFF\xFF\xFF\xFF",
+    // 12: JR C,+0; JR NC,+0; JR Z,+0; JR NZ,+0; JR ULE,+0; JR GT,+0; JP to the start
+    b"\x7B\x00\xFB\x00\x6B\x00\xEB\x00\x3B\x00\xAB\x00\x8D\x01\x00\xFF\xFF\xFF\xFF\xFF\xFF\xFF\xFF\xFF",
+    // 13: RCF; SCF; CCF; NOP; DI; EI; JR
+    b"\xCF\xDF\xEF\xFF\x8F\x9F\x8B\xF8\xFF\xFF\xFF\xFF\xFF\xFF\xFF\xFF\xFF\xFF\xFF\xFF\xFF\xFF\xFF\xFF",
+];
 
-// A row of a table, 24 bytes, to where reset starts.
-fn put_row(image: &mut [u8; IMAGE_4K], rows: &[u8], row: u8) {
-    let at = 24 * (row as usize);
-    let end = at + 24;
-    if end <= rows.len() {
-        put(image, START, &rows[at..end]);
-    }
-}
-
-// One group of instructions in a loop, and RET. The rows are filled up with the byte of the empty image.
-// Others: INC R0; ADD R1,R2; JR
-// 4: LD R1,R2; LD 10H,R2; LD R3,#05H; LD 11H,10H; LD 12H,#07H; JR to the start
-// 5: ADD R1,R2; ADC 11H,10H; SUB R3,#05H; OR R4,R5; AND 11H,10H; CP R4,#20H; XOR R5,R6; TM R2,#01H; JR
-// 6: INC R1; DEC R2; RL R3; RR R4; RLC R5; RRC R6; SRA R7; COM R8; JR
-// 7: LD R2,#10H; LD R3,@R2; LD @R2,R3; ADD R4,@R2; INC @R2; JR
-// 8: LD R3,05H[R2]; LD 06H[R2],R3; JR
-// 9: LD SP,#C0H; PUSH R4; PUSH R5; POP R6; POP R7; JR
-// 10: LD SP,#C0H; CALL 0140H; JR to CALL
-// 11: LD R4,#01H; LDC R3,@RR4; LDCI R3,@RR4; LDC R3,05H[RR4]; LDC R3,0100H; JR
-// 12: JR C,+0; JR NC,+0; JR Z,+0; JR NZ,+0; JR ULE,+0; JR GT,+0; JP to the start
-// 13: RCF; SCF; CCF; NOP; DI; EI; JR
+// One group of instructions, and RET.
 fn group(what: u64, image: &mut [u8; IMAGE_4K]) {
     put(image, 0x140, b"\xAF");
-    put_row(
-        image,
-        b"\x0E\x02\x12\x8B\xFB\xFF\xFF\xFF\xFF\xFF\xFF\xFF\xFF\xFF\xFF\xFF\xFF\xFF\xFF\xFF\xFF\xFF\xFF\xFF\
-          \x18\xC2\x29\x10\x3C\x05\xE4\x10\x11\xE6\x12\x07\x8B\xF2\xFF\xFF\xFF\xFF\xFF\xFF\xFF\xFF\xFF\xFF\
-          \x02\x12\x14\x10\x11\x26\xC3\x05\x42\x45\x54\x10\x11\xA6\xC4\x20\xB2\x56\x76\xC2\x01\x8B\xE9\xFF\
-          \x1E\x00\xC2\x90\xC3\xE0\xC4\x10\xC5\xC0\xC6\xD0\xC7\x60\xC8\x8B\xEF\xFF\xFF\xFF\xFF\xFF\xFF\xFF\
-          \x2C\x10\xC7\x32\xD7\x23\x03\x42\x21\xC2\x8B\xF4\xFF\xFF\xFF\xFF\xFF\xFF\xFF\xFF\xFF\xFF\xFF\xFF\
-          \x87\x32\x05\x97\x32\x06\x8B\xF8\xFF\xFF\xFF\xFF\xFF\xFF\xFF\xFF\xFF\xFF\xFF\xFF\xFF\xFF\xFF\xFF\
-          \xE6\xD9\xC0\x70\xC4\x70\xC5\x50\xC6\x50\xC7\x8B\xF3\xFF\xFF\xFF\xFF\xFF\xFF\xFF\xFF\xFF\xFF\xFF\
-          \xE6\xD9\xC0\xF6\x01\x40\x8B\xFB\xFF\xFF\xFF\xFF\xFF\xFF\xFF\xFF\xFF\xFF\xFF\xFF\xFF\xFF\xFF\xFF\
-          \x4C\x01\xC3\x34\xE3\x34\xE7\x34\x05\xA7\x30\x00\x01\x8B\xF1\xFF\xFF\xFF\xFF\xFF\xFF\xFF\xFF\xFF\
-          \x7B\x00\xFB\x00\x6B\x00\xEB\x00\x3B\x00\xAB\x00\x8D\x01\x00\xFF\xFF\xFF\xFF\xFF\xFF\xFF\xFF\xFF\
-          \xCF\xDF\xEF\xFF\x8F\x9F\x8B\xF8\xFF\xFF\xFF\xFF\xFF\xFF\xFF\xFF\xFF\xFF\xFF\xFF\xFF\xFF\xFF\xFF",
-        row_of(what),
-    );
+    let row = match what {
+        4..=13 => what - 3,
+        _ => 0,
+    };
+    put(image, START, GROUPS[row as usize]);
 }
 
 // The program of a row: 1 is a plain loop, 2 the mixed program, 3 the same with interrupts, 4 to 13 are groups of instructions.
+// No table of functions: the rows' steps take other arguments, so it would be no plainer.
 pub fn program(what: u64) -> [u8; IMAGE_4K] {
     let mut image = [255u8; IMAGE_4K];
     match what {
@@ -96,29 +84,16 @@ pub fn program(what: u64) -> [u8; IMAGE_4K] {
     image
 }
 
-fn wide(x: u8) -> u64 {
-    x as u64
-}
-
 // The program, the cycle total, the program counter, R4 and R6.
 pub fn tell(rt: &impl Print, what: u64, s: State) -> io::Result<()> {
-    let pc = s.pc;
-    let regs = s.regs;
-    println!(rt;
-        "{what} {} {:04x} {:02x} {:02x}",
-        s.cycles,
-        pc.0,
-        wide(regs[0xC4]),
-        wide(regs[0xC6])
-    )
+    let r4 = s.regs[0xC4];
+    let r6 = s.regs[0xC6];
+    println!(rt; "{what} {} {:04x} {r4:02x} {r6:02x}", s.cycles, s.pc.0)
 }
 
 // Makes one part, and answers the state behind it, 0 where it is refused.
 pub fn make_part(seed: u32, records: &mut [u8; SCHEDULE]) -> u32 {
-    match xorshift::fill(seed, records) {
-        Filled::State(state) => state,
-        Filled::Refused(_) => 0,
-    }
+    xorshift::fill(seed, records).unwrap_or(0)
 }
 
 // The first 1,000 records that the seed gives.
@@ -137,7 +112,7 @@ fn argument(rt: &impl Env, i: usize) -> u64 {
     }
 }
 
-// The arguments of a benchmark: the row, how much work, and the seed, 0 where none is given.
+// The arguments of a benchmark: the row, how much work, and the seed.
 #[derive(Clone, Copy)]
 pub struct Arguments {
     pub what: u64,
@@ -145,20 +120,23 @@ pub struct Arguments {
     pub seed: u32,
 }
 
-// The seed of a number, 1 to 4294967295. Another number is told of, and 0.
-fn seed_of(rt: &impl Print, given: u64) -> io::Result<u32> {
-    let seed = (given % 4294967296) as u32;
-    if (seed == 0) | (seed as u64 != given) {
-        print(rt, b"a seed is 1 to 4294967295\n")?;
-        return Ok(0);
+// The seed of a number, 1 to 4294967295.
+fn seed_of(given: u64) -> Option<u32> {
+    match u32::try_from(given) {
+        Ok(0) | Err(_) => None,
+        Ok(seed) => Some(seed),
     }
-    Ok(seed)
 }
 
-pub fn read_arguments(rt: &(impl Print + Env)) -> io::Result<Arguments> {
-    Ok(Arguments {
+// The arguments; where the third is no seed, that is told, and there are none.
+pub fn read_arguments(rt: &(impl Print + Env)) -> io::Result<Option<Arguments>> {
+    let Some(seed) = seed_of(argument(rt, 3)) else {
+        println!(rt; "a seed is 1 to 4294967295")?;
+        return Ok(None);
+    };
+    Ok(Some(Arguments {
         what: argument(rt, 1),
         count: argument(rt, 2),
-        seed: seed_of(rt, argument(rt, 3))?,
-    })
+        seed,
+    }))
 }

@@ -2,37 +2,65 @@
 // texts.
 #![tactic(auto)]
 
-use hex_write::Written;
+use base::InvalidArgument;
 use report::REPORT_LENGTH;
 use std::io;
 use std::rt::Files;
 
 // Prints what was written at the front of a buffer.
-fn print_written(rt: &impl Print, written: Written, out: &[u8]) -> io::Result<()> {
-    match written {
-        Written::Bytes(n) => {
-            if n <= out.len() {
-                rt.write_all(&out[..n])?;
-            }
+fn print_written(
+    rt: &impl Print,
+    written: Result<usize, InvalidArgument>,
+    out: &[u8],
+) -> io::Result<()> {
+    if let Ok(n) = written {
+        if n <= out.len() {
+            rt.write_all(&out[..n])?;
         }
-        Written::WrongLength => {}
     }
     Ok(())
 }
 
-fn example(
-    rt: &(impl Files + Print),
-    image_name: &[u8],
-    certificate_name: &[u8],
-) -> io::Result<()> {
-    rt.write_all(image_name)?;
-    print!(rt; " ")?;
-    rt.write_all(certificate_name)?;
-    println!(rt; "")?;
+// An image file and a certificate file.
+type Pair = (&'static str, &'static str);
+
+// The two in a folder.
+macro_rules! in_folder {
+    ($folder:literal) => {
+        (
+            concat!($folder, "/image.hex"),
+            concat!($folder, "/cert.hex"),
+        )
+    };
+}
+
+fn example(rt: &(impl Files + Print), (image_name, certificate_name): Pair) -> io::Result<()> {
+    println!(rt; "{image_name} {certificate_name}")?;
     let mut out = [0u8; REPORT_LENGTH];
     let mut errors = io::writer(rt);
-    let written = files::judge_files(rt, image_name, certificate_name, &mut out, &mut errors);
+    let written = files::judge_files(
+        rt,
+        image_name.as_bytes(),
+        certificate_name.as_bytes(),
+        &mut out,
+        &mut errors,
+    );
     print_written(rt, written, &out)
+}
+
+fn examples(rt: &(impl Files + Print), pairs: &[Pair]) -> io::Result<()> {
+    for pair in pairs {
+        example(rt, *pair)?;
+    }
+    Ok(())
+}
+
+// Images with one fault each, told by its line.
+fn faults(rt: &(impl Files + Print), image_names: &[&'static str]) -> io::Result<()> {
+    for image_name in image_names {
+        example(rt, (image_name, "p_cert.hex"))?;
+    }
+    Ok(())
 }
 
 // Fills a buffer from a file.
@@ -63,259 +91,146 @@ fn example_of_length(
     let mut out = [0u8; 1142];
     let mut errors = io::writer(rt);
     match files::judge_files(rt, image_name, certificate_name, &mut out, &mut errors) {
-        Written::Bytes(_) => println!(rt; "written"),
-        Written::WrongLength => println!(rt; "7 for a buffer of 1142 bytes"),
+        Ok(_) => println!(rt; "written"),
+        Err(_) => println!(rt; "7 for a buffer of 1142 bytes"),
     }
 }
 
 // The cases of image P.
-fn p_examples(rt: &(impl Files + Print)) -> io::Result<()> {
-    example(rt, b"p_image.hex", b"p_cert.hex")?;
-    example(rt, b"ule_image.hex", b"p_cert.hex")?;
-    example(rt, b"p_image.hex", b"bound_363_cert.hex")?;
-    example(rt, b"p_image.hex", b"floor_bb_cert.hex")?;
-    example(rt, b"p_image.hex", b"floor_bc_cert.hex")
-}
+const P_EXAMPLES: [Pair; 5] = [
+    ("p_image.hex", "p_cert.hex"),
+    ("ule_image.hex", "p_cert.hex"),
+    ("p_image.hex", "bound_363_cert.hex"),
+    ("p_image.hex", "floor_bb_cert.hex"),
+    ("p_image.hex", "floor_bc_cert.hex"),
+];
 
 // Missing, empty, unreadable and cut files.
-fn absent_examples(rt: &(impl Files + Print)) -> io::Result<()> {
-    example(rt, b"missing.hex", b"p_cert.hex")?;
-    example(rt, b"p_image.hex", b"missing.hex")?;
-    example(rt, b"missing.hex", b"missing.hex")?;
-    example(rt, b"empty.hex", b"p_cert.hex")?;
-    example(rt, b".", b"p_cert.hex")?;
-    example(rt, b"no_end_image.hex", b"p_cert.hex")
-}
+const ABSENT_EXAMPLES: [Pair; 6] = [
+    ("missing.hex", "p_cert.hex"),
+    ("p_image.hex", "missing.hex"),
+    ("missing.hex", "missing.hex"),
+    ("empty.hex", "p_cert.hex"),
+    (".", "p_cert.hex"),
+    ("no_end_image.hex", "p_cert.hex"),
+];
 
 // Refused lines; the image decides.
-fn refused_examples(rt: &(impl Files + Print)) -> io::Result<()> {
-    example(rt, b"bad_sum_image.hex", b"p_cert.hex")?;
-    example(rt, b"long_line_image.hex", b"p_cert.hex")?;
-    example(rt, b"p_image.hex", b"past_end_cert.hex")?;
-    example(rt, b"bad_sum_image.hex", b"past_end_cert.hex")?;
-    example(rt, b"no_end_image.hex", b"past_end_cert.hex")
-}
+const REFUSED_EXAMPLES: [Pair; 5] = [
+    ("bad_sum_image.hex", "p_cert.hex"),
+    ("long_line_image.hex", "p_cert.hex"),
+    ("p_image.hex", "past_end_cert.hex"),
+    ("bad_sum_image.hex", "past_end_cert.hex"),
+    ("no_end_image.hex", "past_end_cert.hex"),
+];
 
-// Small letters in the image, in the certificate, in both, in the end line, and behind it.
-fn letter_examples(rt: &(impl Files + Print)) -> io::Result<()> {
-    example(rt, b"lower_image.hex", b"p_cert.hex")?;
-    example(rt, b"p_image.hex", b"lower_cert.hex")?;
-    example(rt, b"lower_image.hex", b"lower_cert.hex")?;
-    fault(rt, b"faults/small_end.hex")?;
-    fault(rt, b"faults/small_behind_end.hex")
-}
+// Small letters in the image, in the certificate, in both.
+const LETTER_EXAMPLES: [Pair; 3] = [
+    ("lower_image.hex", "p_cert.hex"),
+    ("p_image.hex", "lower_cert.hex"),
+    ("lower_image.hex", "lower_cert.hex"),
+];
 
-// Other line ends, larger programs, too short a buffer.
-fn other_examples(rt: &(impl Files + Print)) -> io::Result<()> {
-    example(rt, b"crlf_image.hex", b"crlf_cert.hex")?;
-    example(rt, b"logger_image.hex", b"logger_cert.hex")?;
-    example(rt, b"overrun_image.hex", b"overrun_cert.hex")?;
-    example(rt, b"overrun_image.hex", b"logger_cert.hex")?;
-    example_of_length(rt, b"p_image.hex", b"p_cert.hex")
-}
-
-// The pointer of a logger comes from a ROM table; the same with one byte of the table too large.
-fn table_examples(rt: &(impl Files + Print)) -> io::Result<()> {
-    example(rt, b"linearised/image.hex", b"linearised/cert.hex")?;
-    example(
-        rt,
-        b"linearised_overrun/image.hex",
-        b"linearised_overrun/cert.hex",
-    )
-}
-
-// An interrupt entry takes 20 cycles: the service's bound covers them, and does not.
-fn entry_cost_examples(rt: &(impl Files + Print)) -> io::Result<()> {
-    example(rt, b"entry_cost/image.hex", b"entry_cost/cert.hex")?;
-    example(
-        rt,
-        b"entry_cost_unpaid/image.hex",
-        b"entry_cost_unpaid/cert.hex",
-    )
-}
-
-// An image with one fault, told by its line.
-fn fault(rt: &(impl Files + Print), image_name: &[u8]) -> io::Result<()> {
-    example(rt, image_name, b"p_cert.hex")
-}
+// Small letters in the end line, and behind it.
+const LETTER_FAULTS: [&str; 2] = ["faults/small_end.hex", "faults/small_behind_end.hex"];
 
 // Malformed lines.
-fn malformed_examples(rt: &(impl Files + Print)) -> io::Result<()> {
-    fault(rt, b"faults/empty_line.hex")?;
-    fault(rt, b"faults/no_colon.hex")?;
-    fault(rt, b"faults/control.hex")?;
-    fault(rt, b"faults/no_digit.hex")?;
-    fault(rt, b"faults/blank_behind.hex")?;
-    fault(rt, b"faults/one_short.hex")?;
-    fault(rt, b"faults/two_over.hex")?;
-    fault(rt, b"faults/cut.hex")?;
-    fault(rt, b"faults/end_with_data.hex")?;
-    fault(rt, b"faults/end_sum.hex")
-}
+const MALFORMED: [&str; 10] = [
+    "faults/empty_line.hex",
+    "faults/no_colon.hex",
+    "faults/control.hex",
+    "faults/no_digit.hex",
+    "faults/blank_behind.hex",
+    "faults/one_short.hex",
+    "faults/two_over.hex",
+    "faults/cut.hex",
+    "faults/end_with_data.hex",
+    "faults/end_sum.hex",
+];
 
 // Lines longer than any valid one, and input without an end.
-fn long_examples(rt: &(impl Files + Print)) -> io::Result<()> {
-    fault(rt, b"faults/long_523.hex")?;
-    fault(rt, b"faults/long_522_crlf.hex")?;
-    fault(rt, b"faults/long_behind_end.hex")?;
-    fault(rt, b"/dev/zero")
-}
+const LONG: [&str; 4] = [
+    "faults/long_523.hex",
+    "faults/long_522_crlf.hex",
+    "faults/long_behind_end.hex",
+    "/dev/zero",
+];
 
 // Well-formed lines that are refused, and missing end lines.
-fn field_examples(rt: &(impl Files + Print)) -> io::Result<()> {
-    fault(rt, b"faults/wide_sum.hex")?;
-    fault(rt, b"faults/start_record.hex")?;
-    fault(rt, b"faults/overlap.hex")?;
-    fault(rt, b"faults/ends_past.hex")?;
-    fault(rt, b"faults/far.hex")?;
-    fault(rt, b"faults/behind_end.hex")?;
-    fault(rt, b"faults/last_data.hex")?;
-    fault(rt, b"faults/last_sum.hex")
-}
+const FIELDS: [&str; 8] = [
+    "faults/wide_sum.hex",
+    "faults/start_record.hex",
+    "faults/overlap.hex",
+    "faults/ends_past.hex",
+    "faults/far.hex",
+    "faults/behind_end.hex",
+    "faults/last_data.hex",
+    "faults/last_sum.hex",
+];
+
+// Other line ends, larger programs.
+const OTHER_EXAMPLES: [Pair; 4] = [
+    ("crlf_image.hex", "crlf_cert.hex"),
+    ("logger_image.hex", "logger_cert.hex"),
+    ("overrun_image.hex", "overrun_cert.hex"),
+    ("overrun_image.hex", "logger_cert.hex"),
+];
+
+// The pointer of a logger comes from a ROM table; the same with one byte of the table too large.
+const TABLE_EXAMPLES: [Pair; 2] = [in_folder!("linearised"), in_folder!("linearised_overrun")];
+
+// An interrupt entry takes 20 cycles: the service's bound covers them, and does not.
+const ENTRY_COST_EXAMPLES: [Pair; 2] = [in_folder!("entry_cost"), in_folder!("entry_cost_unpaid")];
 
 // The programs of the page "Idioms" of docs/CERTIFICATE.md.
-fn loop_idioms(rt: &(impl Files + Print)) -> io::Result<()> {
-    example(
-        rt,
-        b"idioms/loop_down/image.hex",
-        b"idioms/loop_down/cert.hex",
-    )?;
-    example(
-        rt,
-        b"idioms/loop_down_obvious/image.hex",
-        b"idioms/loop_down_obvious/cert.hex",
-    )?;
-    example(
-        rt,
-        b"idioms/two_pointers/image.hex",
-        b"idioms/two_pointers/cert.hex",
-    )?;
-    example(
-        rt,
-        b"idioms/two_pointers_obvious/image.hex",
-        b"idioms/two_pointers_obvious/cert.hex",
-    )?;
-    example(
-        rt,
-        b"idioms/base_index/image.hex",
-        b"idioms/base_index/cert.hex",
-    )?;
-    example(
-        rt,
-        b"idioms/base_index_obvious/image.hex",
-        b"idioms/base_index_obvious/cert.hex",
-    )?;
-    example(
-        rt,
-        b"idioms/one_index/image.hex",
-        b"idioms/one_index/cert.hex",
-    )?;
-    example(
-        rt,
-        b"idioms/step_by_two/image.hex",
-        b"idioms/step_by_two/cert.hex",
-    )?;
-    example(
-        rt,
-        b"idioms/step_by_two_obvious/image.hex",
-        b"idioms/step_by_two_obvious/cert.hex",
-    )
-}
+const LOOP_IDIOMS: [Pair; 9] = [
+    in_folder!("idioms/loop_down"),
+    in_folder!("idioms/loop_down_obvious"),
+    in_folder!("idioms/two_pointers"),
+    in_folder!("idioms/two_pointers_obvious"),
+    in_folder!("idioms/base_index"),
+    in_folder!("idioms/base_index_obvious"),
+    in_folder!("idioms/one_index"),
+    in_folder!("idioms/step_by_two"),
+    in_folder!("idioms/step_by_two_obvious"),
+];
 
-fn nested_idioms(rt: &(impl Files + Print)) -> io::Result<()> {
-    example(
-        rt,
-        b"idioms/nested_loops/image.hex",
-        b"idioms/nested_loops/cert.hex",
-    )?;
-    example(
-        rt,
-        b"idioms/nested_loops_obvious/image.hex",
-        b"idioms/nested_loops_obvious/cert.hex",
-    )?;
-    example(
-        rt,
-        b"idioms/nested_in_main/image.hex",
-        b"idioms/nested_in_main/cert.hex",
-    )?;
-    example(
-        rt,
-        b"idioms/outer_in_main/image.hex",
-        b"idioms/outer_in_main/cert.hex",
-    )?;
-    example(
-        rt,
-        b"idioms/wait_ready/image.hex",
-        b"idioms/wait_ready/cert.hex",
-    )?;
-    example(
-        rt,
-        b"idioms/wait_ready_obvious/image.hex",
-        b"idioms/wait_ready_obvious/cert.hex",
-    )?;
-    example(
-        rt,
-        b"idioms/wait_in_main/image.hex",
-        b"idioms/wait_in_main/cert.hex",
-    )
-}
+const NESTED_IDIOMS: [Pair; 7] = [
+    in_folder!("idioms/nested_loops"),
+    in_folder!("idioms/nested_loops_obvious"),
+    in_folder!("idioms/nested_in_main"),
+    in_folder!("idioms/outer_in_main"),
+    in_folder!("idioms/wait_ready"),
+    in_folder!("idioms/wait_ready_obvious"),
+    in_folder!("idioms/wait_in_main"),
+];
 
-fn limit_idioms(rt: &(impl Files + Print)) -> io::Result<()> {
-    example(
-        rt,
-        b"idioms/no_interrupts/image.hex",
-        b"idioms/no_interrupts/cert.hex",
-    )?;
-    example(
-        rt,
-        b"idioms/no_interrupts_obvious/image.hex",
-        b"idioms/no_interrupts_obvious/cert.hex",
-    )?;
-    example(
-        rt,
-        b"idioms/limit_register/image.hex",
-        b"idioms/limit_register/cert.hex",
-    )?;
-    example(
-        rt,
-        b"idioms/limit_register_obvious/image.hex",
-        b"idioms/limit_register_obvious/cert.hex",
-    )?;
-    example(
-        rt,
-        b"idioms/limit_counted_down/image.hex",
-        b"idioms/limit_counted_down/cert.hex",
-    )?;
-    example(
-        rt,
-        b"idioms/tail_call/image.hex",
-        b"idioms/tail_call/cert.hex",
-    )?;
-    example(
-        rt,
-        b"idioms/tail_call_obvious/image.hex",
-        b"idioms/tail_call_obvious/cert.hex",
-    )?;
-    example(
-        rt,
-        b"idioms/tail_copy/image.hex",
-        b"idioms/tail_copy/cert.hex",
-    )
-}
+const LIMIT_IDIOMS: [Pair; 8] = [
+    in_folder!("idioms/no_interrupts"),
+    in_folder!("idioms/no_interrupts_obvious"),
+    in_folder!("idioms/limit_register"),
+    in_folder!("idioms/limit_register_obvious"),
+    in_folder!("idioms/limit_counted_down"),
+    in_folder!("idioms/tail_call"),
+    in_folder!("idioms/tail_call_obvious"),
+    in_folder!("idioms/tail_copy"),
+];
 
 fn main(rt: HostRuntime) -> io::Result<()> {
-    p_examples(&rt)?;
-    absent_examples(&rt)?;
-    refused_examples(&rt)?;
-    letter_examples(&rt)?;
-    malformed_examples(&rt)?;
-    long_examples(&rt)?;
-    field_examples(&rt)?;
-    other_examples(&rt)?;
-    table_examples(&rt)?;
-    entry_cost_examples(&rt)?;
+    examples(&rt, &P_EXAMPLES)?;
+    examples(&rt, &ABSENT_EXAMPLES)?;
+    examples(&rt, &REFUSED_EXAMPLES)?;
+    examples(&rt, &LETTER_EXAMPLES)?;
+    faults(&rt, &LETTER_FAULTS)?;
+    faults(&rt, &MALFORMED)?;
+    faults(&rt, &LONG)?;
+    faults(&rt, &FIELDS)?;
+    examples(&rt, &OTHER_EXAMPLES)?;
+    example_of_length(&rt, b"p_image.hex", b"p_cert.hex")?;
+    examples(&rt, &TABLE_EXAMPLES)?;
+    examples(&rt, &ENTRY_COST_EXAMPLES)?;
     example_of_texts(&rt)?;
-    loop_idioms(&rt)?;
-    nested_idioms(&rt)?;
-    limit_idioms(&rt)
+    examples(&rt, &LOOP_IDIOMS)?;
+    examples(&rt, &NESTED_IDIOMS)?;
+    examples(&rt, &LIMIT_IDIOMS)
 }

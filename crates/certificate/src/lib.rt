@@ -99,6 +99,7 @@ pub struct Summary {
 }
 
 // The checker's answer: accepted; or refused, with the number of the broken rule and its address. A slice of wrong length is 7 at 0000H.
+// No `Result`: both are answers of the checker; `Exact`, `check_exact`, `accepts_exactly` and `refuses_exactly` speak of them and of every number.
 #[derive(Clone, Copy)]
 pub enum Verdict {
     Accepted,

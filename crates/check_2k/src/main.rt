@@ -3,14 +3,13 @@
 #![tactic(auto)]
 
 use base::{IMAGE_2K, Profile};
-use hex_write::Written;
 use report::REPORT_LENGTH;
 use std::rt::Files;
 
 // Prints the first n bytes of a report. The program has no status: what cannot be written is not told.
 fn print_front(rt: &impl Print, out: &[u8], n: usize) {
-    if n <= out.len() {
-        let _ = rt.write_all(&out[..n]);
+    if let Some(front) = out.get(..n) {
+        let _ = rt.write_all(front);
     }
 }
 
@@ -23,8 +22,9 @@ fn main(rt: HostRuntime) {
     let cert_read = files::read_file(&rt, b"cert.hex", &mut cert, &mut errors);
     let verdict = checker::check(Profile::Rom2K, &image, &cert);
     let mut out = [0u8; REPORT_LENGTH];
-    match judge::write_judgement(image_read, cert_read, verdict, &cert, &mut out) {
-        Written::Bytes(n) => print_front(&rt, &out, n),
-        Written::WrongLength => {}
+    let image_number = judge::numbered(image_read);
+    let cert_number = judge::numbered(cert_read);
+    if let Ok(n) = judge::write_judgement(image_number, cert_number, verdict, &cert, &mut out) {
+        print_front(&rt, &out, n);
     }
 }

@@ -2,24 +2,24 @@
 // certificate's length; edits of an image of FFH, and of a certificate of 00H; and the answer that it expects.
 #![tactic(auto)]
 
-ghost use Rattle.std.specs.Prelude.{◌≤◌};
+ghost use Rattle.std.specs.Prelude.{◌≤◌, IfSome};
 ghost use Rattle.base.specs.Lengths.{long_certificate_length};
 
-use base::{IMAGE_2K, IMAGE_4K, LONG_CERTIFICATE_LENGTH, Profile, SHORT_CERTIFICATE_LENGTH};
+use base::{IMAGE_4K, LONG_CERTIFICATE_LENGTH, Profile, SHORT_CERTIFICATE_LENGTH};
 use certificate::Verdict;
-use std::io;
 use std::io::Read;
-use test_support::{Case, Counts, print, print_number, read_edits};
+use std::{fmt, io};
+use test_support::{Case, Counts, read_edits};
 
-// The numbers of a case's profile and of its certificate's length.
+// The numbers of a case's profile and of its certificate's length; numbers, since a difference prints those that the checker does not have, too.
 #[derive(Clone, Copy)]
 struct Kind {
     profile: u8,
     length: u8,
 }
 
-// A number, 0 for accepted, and an address.
-#[derive(Clone, Copy)]
+// A number, 0 for accepted, and an address, as a case of the file gives them and a difference prints them.
+#[derive(Clone, Copy, PartialEq, Eq)]
 struct Answer {
     number: u8,
     address: u16,
@@ -42,52 +42,48 @@ fn answer_of(v: Verdict) -> Answer {
 fn expected_of(three: &[u8; 3]) -> Answer {
     Answer {
         number: three[0],
-        address: test_support::word(three[1], three[2]),
+        address: base::word(three[1], three[2]),
     }
 }
 
-fn print_answer(rt: &impl Print, a: Answer) -> io::Result<()> {
-    print!(rt; "{} at {}", a.number, a.address)
+impl fmt::Display for Answer {
+    fn fmt<W: fmt::Write>(&self, f: &mut fmt::Formatter<W>) -> fmt::Result {
+        write!(f, "{} at {}", self.number, self.address)
+    }
+}
+
+impl Kind {
+    // The part, if the checker has it.
+    fn profile(self) -> Option<Profile> {
+        match self.profile {
+            0 => Some(Profile::Rom4K),
+            1 => Some(Profile::Rom2K),
+            _ => None,
+        }
+    }
+
+    // The bytes of the certificate, if the checker takes that many.
+    fn certificate_length(self) -> Option<usize>
+        ensures { IfSome result (λ n. n ≤ long_certificate_length) }
+    {
+        match self.length {
+            0 => Some(SHORT_CERTIFICATE_LENGTH),
+            1 => Some(LONG_CERTIFICATE_LENGTH),
+            _ => None,
+        }
+    }
 }
 
 fn tell(rt: &impl Print, kind: Kind, expected: Answer, given: Answer) -> io::Result<()> {
-    print!(rt;
-        " of profile {}, certificate length {}: expected ",
-        kind.profile, kind.length
-    )?;
-    print_answer(rt, expected)?;
-    print(rt, b", given ")?;
-    print_answer(rt, given)?;
-    print(rt, b"\n")
+    let Kind { profile, length } = kind;
+    println!(rt;
+        " of profile {profile}, certificate length {length}: expected {expected}, given {given}"
+    )
 }
 
-// Whether the checker has the profile of a case, and its certificate length.
-fn is_supported(kind: Kind) -> bool {
-    (kind.profile <= 1) & (kind.length <= 1)
-}
-
-// The bytes of a case's certificate.
-fn length_of(kind: Kind) -> usize
-    ensures { result ≤ long_certificate_length }
-{
-    if kind.length == 0 {
-        SHORT_CERTIFICATE_LENGTH
-    } else {
-        LONG_CERTIFICATE_LENGTH
-    }
-}
-
-// The verdict on a case; an image of the 2K part is the first 2048 bytes.
-fn verdict_of(kind: Kind, image: &[u8; IMAGE_4K], cert: &[u8]) -> Verdict {
-    let bytes = &image[..];
-    if kind.profile == 0 {
-        return checker::check(Profile::Rom4K, bytes, cert);
-    }
-    checker::check(Profile::Rom2K, &bytes[0..IMAGE_2K], cert)
-}
-
-fn same_answer(a: Answer, b: Answer) -> bool {
-    (a.number == b.number) & (a.address == b.address)
+// The verdict on a case, whose image is the first bytes of a buffer.
+fn verdict_of(profile: Profile, buffer: &[u8; IMAGE_4K], cert: &[u8]) -> Verdict {
+    checker::check(profile, &buffer[..base::image_length(profile)], cert)
 }
 
 // Reads the rest of a case, and compares; one that is cut off differs.
@@ -98,33 +94,32 @@ fn compare(rt: &impl Print, file: &mut impl Read, kind: Kind, counts: Counts) ->
     let edited = read_edits(file, &mut image) & read_edits(file, &mut cert);
     let whole = (test_support::read_full(file, &mut three) == 3) & edited;
     let expected = expected_of(&three);
-    let given = answer_of(verdict_of(kind, &image, &cert[0..length_of(kind)]));
-    if whole & is_supported(kind) & same_answer(expected, given) {
+    let is_supported = kind.profile().is_some() && kind.certificate_length().is_some();
+    let profile = kind.profile().unwrap_or(Profile::Rom2K);
+    let length = kind.certificate_length().unwrap_or(LONG_CERTIFICATE_LENGTH);
+    let given = answer_of(verdict_of(profile, &image, &cert[..length]));
+    if whole && is_supported && expected == given {
         return Ok(Case::Same);
     }
-    if test_support::tells(rt, counts)? {
+    if counts.tells(rt)? {
         tell(rt, kind, expected, given)?;
     }
     Ok(Case::Differs)
 }
 
-fn run_case(rt: &impl Print, file: &mut impl Read, counts: Counts) -> io::Result<Case> {
+fn run_case(rt: &impl Print, file: &mut impl Read, counts: Counts) -> io::Result<Option<Case>> {
     let mut two = [0u8; 2];
     if test_support::read_full(file, &mut two) == 0 {
-        return Ok(Case::End);
+        return Ok(None);
     }
-    let kind = Kind {
-        profile: two[0],
-        length: two[1],
-    };
-    compare(rt, file, kind, counts)
+    let [profile, length] = two;
+    Ok(Some(compare(rt, file, Kind { profile, length }, counts)?))
 }
 
 fn main(rt: HostRuntime) -> io::Result<()> {
-    let mut file = test_support::open(&rt, b"checks.bin")?;
-    let mut counts = test_support::start();
-    while counts.left > 0 {
-        counts = test_support::counted(counts, run_case(&rt, &mut file, counts)?);
-    }
-    test_support::finish(&rt, file, counts)
+    test_support::run_cases(
+        &rt,
+        b"checks.bin",
+        |file, counts| run_case(&rt, file, counts),
+    )
 }

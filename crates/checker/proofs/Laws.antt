@@ -1,9 +1,10 @@
 -- The ways of the verdict: a rule that holds or is broken, an address that goes on or stops, the tests before the scan.
 -- Assumes nothing.
-use Prim.Native.Nat.{ℕ, suc, ◌+◌, ◌-◌, ◌<◌}
+use Prim.Native.Nat.{ℕ, zero, suc, ◌+◌, ◌-◌, ◌<◌}
 use mathlib.Core.Path.{◌≡◌, refl, sym, ap, ◌∙◌}
-use mathlib.Core.Bool.{true, false}
+use mathlib.Core.Bool.{true, false, ◌&&◌}
 use mathlib.Core.List.{List}
+use Rattle.std.specs.Prelude.{Some, None}
 use native.Mathlib.Omega.{arith}
 use lib.ListN.{length, get_or}
 use lib.Dec.{eqb}
@@ -13,39 +14,42 @@ use Rattle.base.specs.Formula.{decide}
 use Rattle.base.specs.Lengths.{is_certificate_length}
 use Rattle.base.specs.Parts.{Part, part_of, rom_fits}
 use Rattle.base.specs.declared.Profile.{Profile}
-use Rattle.certificate.specs.declared.Summary.{Summary}
 use Rattle.certificate.specs.declared.Verdict.{Verdict}
 use Rattle.certificate.specs.declared.Verdict.TheVariants.{Accepted, Refused}
 use Rattle.certificate.specs.Layout.{Certificate, certificate_of}
-use Rattle.safety.specs.Rules.{rule20, rule21, rule22, rule23, rule24, rule25, rule26, rule27}
-use Rattle.safety.specs.Verdicts.{rules_with, rules_on, first_broken, number_at, scan_by, scan, verdict_on_by, verdict_by, verdict_of, Exact}
+use Rattle.safety.specs.Rules.{rule20}
+use Rattle.safety.specs.Verdicts.{number_at, scan_by, scan, verdict_on_by, verdict_by, verdict_of, Exact}
 use Rattle.safety.specs.Statement.{Demand3}
 use Rattle.safety.proofs.Exact.{exact}
 use Rattle.safety.proofs.Theorem.{demand3}
-use Rattle.checker.specs.declared.Holding.{Holding}
-use Rattle.checker.specs.Tested.{tested}
+use Rattle.checker.specs.Broken.{number_told}
+
+told_none : (n : ℕ) → number_told n ≡ None → n ≡ 0
+told_none zero e = refl
+told_none (suc n) e = absurd (grind arith)
+
+told_some : (n k : ℕ) → number_told n ≡ Some k → (n ≡ k) × (n ≡ 0 → ⊥)
+told_some zero k e = absurd (grind arith)
+told_some (suc n) k e = (grind arith, λ z. absurd (omega arith))
 
 turn : (rom a : ℕ) → a < rom → rom - a ≡ suc (rom - (a + 1))
 turn rom a h = omega arith
 
 module _ (rom : ℕ) (C : Certificate) (image : List ℕ) (a : ℕ) (h : a < rom) where
-  pub scan_on : number_at rom C image a ≡ 0 → scan rom C image (rom - a) a ≡ scan rom C image (rom - (a + 1)) (a + 1)
+  pub scan_on : number_told (number_at rom C image a) ≡ None → scan rom C image (rom - a) a ≡ scan rom C image (rom - (a + 1)) (a + 1)
   unfolding scan_by
-  scan_on z = ap (λ (n : ℕ). scan rom C image n a) (turn rom a h) ∙ rw (scan_by, eq-eqb (number_at rom C image a) 0 z)
+  scan_on z = ap (λ (n : ℕ). scan rom C image n a) (turn rom a h) ∙ rw (scan_by, eq-eqb (number_at rom C image a) 0 (told_none _ z))
 
-  pub scan_stop : (number_at rom C image a ≡ 0 → ⊥) → scan rom C image (rom - a) a ≡ Refused (number_at rom C image a) (rom_addr a)
+  pub scan_stop : (n : ℕ) → number_told (number_at rom C image a) ≡ Some n → scan rom C image (rom - a) a ≡ Refused n (rom_addr a)
   unfolding scan_by
-  scan_stop z = ap (λ (n : ℕ). scan rom C image n a) (turn rom a h) ∙ rw (scan_by, ne_eqb (number_at rom C image a) 0 z)
+  scan_stop n z =
+      let t = told_some (number_at rom C image a) n z in
+      ap (λ (k : ℕ). scan rom C image k a) (turn rom a h) ∙ rw (scan_by, ne_eqb (number_at rom C image a) 0 t.1) (ap (λ (k : ℕ). Refused k (rom_addr a)) t.0)
 
 module _ (rom : ℕ) (image cert : List ℕ) where
-  pub image_length_lem : eqb (length image) rom ≡ false → Refused 7 (rom_addr 0) ≡ verdict_of rom image cert
+  pub wrong_length : (eqb (length image) rom && is_certificate_length (length cert)) ≡ false → Refused 7 (rom_addr 0) ≡ verdict_of rom image cert
   unfolding verdict_by
-  image_length_lem n = rw (verdict_by, n)
-
-  pub certificate_length : eqb (length image) rom ≡ true → is_certificate_length (length cert) ≡ false
-      → Refused 7 (rom_addr 0) ≡ verdict_of rom image cert
-  unfolding verdict_by
-  certificate_length e n = rw (verdict_by, e, n)
+  wrong_length n = rw (verdict_by, n)
 
   module _ (e : eqb (length image) rom ≡ true) (k : is_certificate_length (length cert) ≡ true) where
     pub layout_broken : decide (rule20 (certificate_of cert) rom image) ≡ false → Refused 20 (rom_addr 0) ≡ verdict_of rom image cert
@@ -56,23 +60,6 @@ module _ (rom : ℕ) (image cert : List ℕ) where
         → scan rom (certificate_of cert) image rom 0 ≡ verdict_of rom image cert
     unfolding verdict_by verdict_on_by
     layout_holds d = rw (verdict_by, e, k, verdict_on_by, d)
-
--- the rules' values in place of the rules
-abbrev pub holding_of : ℕ → Certificate → ℕ → Summary → ℕ → ℕ → Holding
-holding_of rom C a S next cost = record {
-  rule21 = decide (rule21 C rom a S next);
-  rule22 = decide (rule22 C a S);
-  rule23 = decide (rule23 C a S);
-  rule24 = decide (rule24 C rom a S);
-  rule25 = decide (rule25 C a S next);
-  rule26 = decide (rule26 C a S next);
-  rule27 = decide (rule27 C a S cost next);
-}
-
-pub first_by_value : (rom : ℕ) (C : Certificate) (a : ℕ) (S : Summary) (next cost : ℕ)
-    → first_broken (tested (holding_of rom C a S next cost)) ≡ first_broken (rules_on rom C a S next cost)
-unfolding tested rules_with first_broken
-first_by_value rom C a S next cost = refl
 
 -- what `check` promises of a verdict
 abbrev Promised : Part → List ℕ → List ℕ → Verdict → Type 0

@@ -1,1 +1,1 @@
-pub mod Tested
+pub mod Broken

@@ -15,31 +15,16 @@ pub type Registers = [u8; 256];
 // A schedule record.
 pub type Record = [u8; base::RECORD_LENGTH];
 
-// The inputs of a step: the bytes of its schedule record, and one that is 1 on a part whose A/D inputs from 3 on are grounded, else 0.
+// The inputs of a step: the bytes of its schedule record, and one that is 1 on a part whose A/D inputs from 3 on are grounded, else 0. Bytes, and no
+// struct: `inputs_of` and `load_of` read them as one list.
 pub type Inputs = [u8; base::RECORD_LENGTH + 1];
-
-// The last of a step's inputs.
-fn last_input(grounds: bool) -> u8
-    ensures { result ≡ pick grounds 1 0 }
-{
-    if grounds { 1 } else { 0 }
-}
 
 // The inputs of a step under a record, on a part that grounds those A/D inputs or not.
 pub fn inputs(grounds: bool, rec: Record) -> Inputs
     ensures { result ≡ inputs_of grounds rec }
 {
-    [
-        rec[0],
-        rec[1],
-        rec[2],
-        rec[3],
-        rec[4],
-        rec[5],
-        rec[6],
-        rec[7],
-        last_input(grounds),
-    ]
+    let [a, b, c, d, e, f, g, h] = rec;
+    [a, b, c, d, e, f, g, h, u8::from(grounds)]
 }
 
 // Whether a is RAM or a control register.
@@ -47,10 +32,7 @@ pub fn mapped(a: RegAddr) -> bool
     ensures { result ≡ mapped_of a.0 }
 {
     let n = a.0;
-    if n < 0xD0 {
-        return true;
-    }
-    (0x39C0FC7FA37u64 >> (n - 0xD0)) % 2 == 1
+    n < 0xD0 || (0x39C0FC7FA37u64 >> (n - 0xD0)) % 2 == 1
 }
 
 // The kept bits of addresses 8 * k to 8 * k + 7, lowest address lowest.
@@ -82,7 +64,7 @@ fn kept_bits(n: u8) -> u8
 fn grounded_now(regs: &Registers, rec: &Inputs) -> bool
     ensures { result ≡ grounded_now regs.now rec.now }
 {
-    (rec[8] == 1) & (3 <= regs[0xF7] / 16)
+    rec[8] == 1 && 3 <= regs[0xF7] / 16
 }
 
 // What a read of the A/D result gives, where v is the record's.
@@ -98,7 +80,7 @@ pub fn load(regs: &Registers, rec: &Inputs, a: RegAddr) -> u8
     ensures { result ≡ load_of regs.now rec.now a.0 }
 {
     let n = a.0;
-    let i = n as usize;
+    let i = usize::from(n);
     if n < 0xD0 {
         return regs[i];
     }
@@ -119,9 +101,10 @@ fn written_f7(old: u8, v: u8) -> u8
     ensures { result ≡ written_f7 old v }
 {
     if v % 2 == 1 {
-        return v & 0xF7;
+        v & 0xF7
+    } else {
+        (v & 0xF7) | (old & 0x08)
     }
-    (v & 0xF7) | (old & 0x08)
 }
 
 // What a write of v asks for at control register n, which holds old.
@@ -159,9 +142,8 @@ fn kept(a: RegAddr, old: u8, v: u8) -> u8
 pub fn store(regs: &mut Registers, a: RegAddr, v: u8)
     ensures { regs.new ≡ store_of regs.old a.0 v }
 {
-    let i = a.0 as usize;
-    let x = kept(a, regs[i], v);
-    regs[i] = x;
+    let i = usize::from(a.0);
+    regs[i] = kept(a, regs[i], v);
 }
 
 // The registers at reset: table 8-1. What it leaves open (RAM, SP, the kept bits of FLAGS, F8H and F9H) is 0.

@@ -1,310 +1,261 @@
-// Ranges, values left on an edge, changes of cells and bounds: what several rules read of an entry. A contract over an entry n speaks of every
-// address, of any certificate, whose entry is n.
+// Ranges, values left on an edge, changes of cells and bounds: what several rules read of an entry at its address.
 #![tactic(auto)]
 
-ghost use Rattle.std.specs.Prelude.{◌≡◌, ℕ, ◌+◌, ◌-◌, true, false};
-ghost use Rattle.base.specs.Choice.{pick};
-ghost use Rattle.base.specs.Formula.{decide};
-ghost use Rattle.certificate.specs.Layout.{Certificate};
+ghost use Rattle.std.specs.Prelude.{◌≡◌, ◌<◌, ◌+◌, ◌||◌, eqb, ℕ, Bool};
+ghost use Rattle.base.specs.Formula.{Formula, decide};
 ghost use Rattle.certificate.specs.Summaries.{range};
-ghost use Rattle.entries.specs.Fields.{entry_of};
-ghost use Rattle.safety.specs.Rules.{change_of};
-ghost use Rattle.claims.specs.Values.{edge_of, among, none_among, stays_within, all_within, values_of, feasible_for, change_in, pointed_at};
-ghost use Rattle.claims.specs.Bounds.{distance_from, bound_from, worst_from};
+ghost use Rattle.entries.specs.Fields.{said_by, entry_of};
+ghost use Rattle.safety.specs.Rules.{low, high, bound_at, worst, change_of};
+ghost use Rattle.flows.specs.Edges.{edge_of};
+ghost use Rattle.claims.specs.Bounds.{distance_from};
+ghost use Rattle.claims.specs.Values.{among, all_between, all_among, values_of, feasible_for, change_in, pointed_at};
 
 use base::{RegAddr, RomAddr};
 use certificate::{NewValue, Range, Write};
-use entries::{Entry, NO_CELL};
+use entries::{Certificate, Entry, NO_CELL};
+use flows::Edge;
 
-// An edge of the control flow: its condition, whether it is the one on which the condition holds, and where it goes.
+// An entry of a certificate at its address.
 #[derive(Clone, Copy)]
-pub struct Edge {
-    pub condition: u8,
-    pub outcome: bool,
-    pub to: RomAddr,
+pub struct EntryAt<'a> {
+    pub certificate: Certificate<'a>,
+    pub address: RomAddr,
+    pub entry: Entry,
+    pub ghost told: { entry ≡ entry_of (said_by certificate) address.0 },
 }
 
-// The values of a cell that are left on an edge: low to high, and where the cell is narrowed those that meet the condition against a number.
+// A comparison of a value with a number, and whether its condition must hold.
 #[derive(Clone, Copy)]
-pub struct Values {
-    pub low: u8,
-    pub high: u8,
-    pub narrowed: bool,
+pub struct Comparison {
     pub condition: u8,
     pub outcome: bool,
     pub number: u8,
 }
 
-// What a write may leave in a cell.
+// The values of a cell that are left on an edge: those of a range, and where the cell is narrowed those that meet a comparison.
 #[derive(Clone, Copy)]
-pub enum Change {
-    Unchanged,
-    Changed(NewValue),
+pub struct Values {
+    pub range: Range,
+    pub narrowed: Option<Comparison>,
 }
 
-// The range of a cell by an entry: its claim's, else 0 to 255. Of FFH, which marks no claim, it says nothing.
-#[tactic(auto, using(crate::proofs::Laws::low_by), unfolding(crate::proofs::Laws::low_in))]
-pub fn low_in(n: Entry, x: RegAddr) -> u8
-    ensures { (C : Certificate) (a : ℕ) → n ≡ entry_of C a → result ≡ Rattle.safety.specs.Rules.low C a x.0 }
+// Whether every number from low to high passes a test.
+pub fn all_between<F: Fn(u8) -> bool>(low: u8, high: u8, passes: F) -> bool
+    requires { F.IsAlwaysCallable passes }
+    ensures { (p : ℕ → Formula) → ((v : ℕ) (r : Bool) → v < 256 → F.post passes v r → r ≡ decide (p v)) → result ≡ decide (all_between low high p) }
 {
-    if x.0 == n.first.cell.0 {
-        return n.first.low;
+    for v in low..=high {
+        if !passes(v) {
+            return false;
+        }
     }
-    if x.0 == n.second.cell.0 {
-        return n.second.low;
-    }
-    0
+    true
 }
 
-#[tactic(auto, using(crate::proofs::Laws::high_by), unfolding(crate::proofs::Laws::high_in))]
-pub fn high_in(n: Entry, x: RegAddr) -> u8
-    ensures { (C : Certificate) (a : ℕ) → n ≡ entry_of C a → result ≡ Rattle.safety.specs.Rules.high C a x.0 }
-{
-    if x.0 == n.first.cell.0 {
-        return n.first.high;
+impl Comparison {
+    // Value v meets it. C, NC, Z, NZ, ULE and UGT are unsigned; any other condition says nothing.
+    #[tactic(auto, using(base::specs::ChoiceLaws::choose_miss), unfolding(safety::specs::Rules::meets))]
+    fn met_by(self, v: u8) -> bool
+        ensures { result ≡ decide (Rattle.safety.specs.Rules.meets self.condition self.outcome v self.number) }
+    {
+        let k = self.number;
+        match self.condition {
+            7 => (v < k) == self.outcome,
+            15 => (k <= v) == self.outcome,
+            6 => (v == k) == self.outcome,
+            14 => (v != k) == self.outcome,
+            3 => (v <= k) == self.outcome,
+            11 => (k < v) == self.outcome,
+            _ => true,
+        }
     }
-    if x.0 == n.second.cell.0 {
-        return n.second.high;
-    }
-    255
 }
 
-// The range of the cell behind p, the low half of a pair; behind FFH stands none, and 0 to 255 counts.
-#[tactic(auto, using(safety::proofs::CodeRangeLaws::unclaimed))]
-pub fn second_half_range(n: Entry, p: RegAddr) -> Range
-    ensures { (C : Certificate) (a : ℕ) → n ≡ entry_of C a → result ≡ range (Rattle.safety.specs.Rules.low C a (p.0 + 1)) (Rattle.safety.specs.Rules.high C a (p.0 + 1)) }
-{
-    if p.0 == 255 {
-        return Range {
+impl Values {
+    // v is one of the values.
+    #[tactic(auto, unfolding(crate::specs::Values::among))]
+    pub fn has(self, v: u8) -> bool
+        ensures { result ≡ decide (among self v) }
+    {
+        let met = match self.narrowed {
+            Some(comparison) => comparison.met_by(v),
+            None => true,
+        };
+        self.range.least <= v && (v <= self.range.greatest && met)
+    }
+
+    // Every one of the values passes a test.
+    pub fn all<F: Fn(u8) -> bool>(self, passes: F) -> bool
+        requires { F.IsAlwaysCallable passes }
+        ensures { (p : ℕ → Formula) → ((v : ℕ) (r : Bool) → v < 256 → F.post passes v r → r ≡ decide (p v)) → result ≡ decide (all_among self p) }
+    {
+        all_between(
+            self.range.least,
+            self.range.greatest,
+            |v| !self.has(v) || passes(v),
+        )
+    }
+}
+
+impl<'a> EntryAt<'a> {
+    // The entry of a ROM address.
+    pub fn new(certificate: &Certificate<'a>, address: RomAddr) -> EntryAt<'a>
+        ensures of { result.certificate ≡ certificate.now }
+        ensures at { result.address ≡ address }
+    {
+        EntryAt {
+            certificate: *certificate,
+            address,
+            entry: certificate.entry(address),
+        }
+    }
+
+    // The range of a cell: its claim's, else 0 to 255. Of FFH, which marks no claim, it says nothing.
+    pub fn range(&self, x: RegAddr) -> Range
+        ensures { result ≡ range (low (said_by self.now.certificate) self.now.address.0 x.0) (high (said_by self.now.certificate) self.now.address.0 x.0) }
+    {
+        self.range_of(u16::from(x.0))
+    }
+
+    // The range of the cell behind p, the low half of a pair; behind FFH stands none, and 0 to 255 counts.
+    pub fn second_half_range(&self, p: RegAddr) -> Range
+        ensures { result ≡ range (low (said_by self.now.certificate) self.now.address.0 (p.0 + 1)) (high (said_by self.now.certificate) self.now.address.0 (p.0 + 1)) }
+    {
+        self.range_of(u16::from(p.0) + 1)
+    }
+
+    // The range of the cell of a number, which may be one past the last.
+    #[tactic(auto, unfolding(safety::specs::Rules::low, safety::specs::Rules::high))]
+    fn range_of(&self, x: u16) -> Range
+        ensures { result ≡ range (low (said_by self.now.certificate) self.now.address.0 x) (high (said_by self.now.certificate) self.now.address.0 x) }
+    {
+        let Entry { first, second, .. } = self.entry;
+        if x == u16::from(first.cell.0) {
+            return Range {
+                least: first.low,
+                greatest: first.high,
+            };
+        }
+        if x == u16::from(second.cell.0) {
+            return Range {
+                least: second.low,
+                greatest: second.high,
+            };
+        }
+        Range {
             least: 0,
             greatest: 255,
+        }
+    }
+
+    #[tactic(auto, unfolding(safety::specs::Rules::claimed))]
+    pub fn claimed(&self, x: RegAddr) -> bool
+        ensures { result ≡ decide (Rattle.safety.specs.Rules.claimed (said_by self.now.certificate) self.now.address.0 x.0) }
+    {
+        x.0 != NO_CELL && (x == self.entry.first.cell || x == self.entry.second.cell)
+    }
+
+    // The cell is compared, and claimed.
+    #[tactic(auto, unfolding(safety::specs::Rules::narrowed))]
+    fn narrowed(&self, x: RegAddr) -> bool
+        ensures { result ≡ decide (Rattle.safety.specs.Rules.narrowed (said_by self.now.certificate) self.now.address.0 x.0) }
+    {
+        x == self.entry.compare.cell && self.claimed(x)
+    }
+
+    // The values of cell x that are left on an edge.
+    pub fn values_left(&self, e: Edge, x: RegAddr) -> Values
+        ensures { result ≡ values_of (said_by self.now.certificate) self.now.address.0 (edge_of e) x.0 }
+    {
+        let narrowed = if self.narrowed(x) {
+            Some(Comparison {
+                condition: e.condition,
+                outcome: e.outcome,
+                number: self.entry.compare.number,
+            })
+        } else {
+            None
         };
-    }
-    let x = RegAddr(p.0 + 1);
-    Range {
-        least: low_in(n, x),
-        greatest: high_in(n, x),
-    }
-}
-
-#[tactic(auto, unfolding(safety::specs::Rules::claimed))]
-pub fn claimed_in(n: Entry, x: RegAddr) -> bool
-    ensures { (C : Certificate) (a : ℕ) → n ≡ entry_of C a → result ≡ decide (Rattle.safety.specs.Rules.claimed C a x.0) }
-{
-    (x.0 != NO_CELL) & ((x.0 == n.first.cell.0) | (x.0 == n.second.cell.0))
-}
-
-// The cell is compared, and claimed.
-#[tactic(auto, unfolding(safety::specs::Rules::narrowed))]
-fn narrowed(n: Entry, x: RegAddr) -> bool
-    ensures { (C : Certificate) (a : ℕ) → n ≡ entry_of C a → result ≡ decide (Rattle.safety.specs.Rules.narrowed C a x.0) }
-{
-    (x.0 == n.compare.cell.0) & claimed_in(n, x)
-}
-
-// Value v, compared with k, meets the condition. C, NC, Z, NZ, ULE and UGT are unsigned; any other condition says nothing.
-#[tactic(auto, using(base::specs::ChoiceLaws::choose_miss), unfolding(safety::specs::Rules::meets))]
-fn meets_holding(cc: u8, v: u8, k: u8) -> bool
-    ensures { result ≡ decide (Rattle.safety.specs.Rules.meets cc true v k) }
-{
-    match cc {
-        7 => v < k,
-        15 => k <= v,
-        6 => v == k,
-        14 => v != k,
-        3 => v <= k,
-        11 => k < v,
-        _ => true,
-    }
-}
-
-// Value v, compared with k, meets the opposite of the condition.
-#[tactic(auto, using(base::specs::ChoiceLaws::choose_miss), unfolding(safety::specs::Rules::meets))]
-fn meets_failing(cc: u8, v: u8, k: u8) -> bool
-    ensures { result ≡ decide (Rattle.safety.specs.Rules.meets cc false v k) }
-{
-    match cc {
-        7 => !(v < k),
-        15 => !(k <= v),
-        6 => !(v == k),
-        14 => !(v != k),
-        3 => !(v <= k),
-        11 => !(k < v),
-        _ => true,
-    }
-}
-
-fn meets(cc: u8, outcome: bool, v: u8, k: u8) -> bool
-    ensures { result ≡ decide (Rattle.safety.specs.Rules.meets cc outcome v k) }
-{
-    if outcome {
-        return meets_holding(cc, v, k);
-    }
-    meets_failing(cc, v, k)
-}
-
-// v is one of the values.
-#[tactic(auto, unfolding(crate::specs::Values::among))]
-pub fn has(s: Values, v: u8) -> bool
-    ensures { result ≡ decide (among s v) }
-{
-    let met = meets(s.condition, s.outcome, v, s.number);
-    (s.low <= v) & ((v <= s.high) & (!s.narrowed | met))
-}
-
-// The values of cell x that are left on an edge from entry n.
-pub fn values_left(n: Entry, e: Edge, x: RegAddr) -> Values
-    ensures { (C : Certificate) (a : ℕ) → n ≡ entry_of C a → result ≡ values_of C a (edge_of e) x.0 }
-{
-    Values {
-        low: low_in(n, x),
-        high: high_in(n, x),
-        narrowed: narrowed(n, x),
-        condition: e.condition,
-        outcome: e.outcome,
-        number: n.compare.number,
-    }
-}
-
-// No value is left.
-#[tactic(auto, unfolding(crate::specs::Values::among, crate::specs::Values::none_among))]
-fn none_left(s: Values) -> bool
-    ensures { result ≡ decide (none_among s) }
-{
-    let high = s.high as u16;
-    let mut v = s.low as u16;
-    while v <= high {
-        if has(s, v as u8) {
-            return false;
+        Values {
+            range: self.range(x),
+            narrowed,
         }
-        v += 1;
     }
-    true
-}
 
-// v, if it is left, lies between l and h.
-fn stays(s: Values, v: u8, l: u8, h: u8) -> bool
-    ensures { result ≡ decide (stays_within s l h v) }
-{
-    !has(s, v) | ((l <= v) & (v <= h))
-}
+    // Some value of cell x, if it is claimed, is left on an edge.
+    fn feasible_for(&self, e: Edge, x: RegAddr) -> bool
+        ensures { result ≡ decide (feasible_for (said_by self.now.certificate) self.now.address.0 (edge_of e) x.0) }
+    {
+        !self.claimed(x) || !self.values_left(e, x).all(|_| false)
+    }
 
-// Every value that is left lies between l and h.
-#[tactic(auto, unfolding(crate::specs::Values::among, crate::specs::Values::all_within))]
-pub fn all_within(s: Values, l: u8, h: u8) -> bool
-    ensures { result ≡ decide (all_within s l h) }
-{
-    let high = s.high as u16;
-    let mut v = s.low as u16;
-    while v <= high {
-        if !stays(s, v as u8, l, h) {
-            return false;
+    // Some value of the compared and claimed cell is left on an edge.
+    #[tactic(auto, unfolding(safety::specs::Rules::feasible, crate::specs::Values::feasible_for))]
+    pub fn feasible(&self, e: Edge) -> bool
+        ensures { result ≡ decide (Rattle.safety.specs.Rules.feasible (said_by self.now.certificate) self.now.address.0 (edge_of e)) }
+    {
+        self.feasible_for(e, self.entry.compare.cell)
+    }
+
+    // x is among the addresses that a pointer's claim, plus the offset, reaches.
+    fn pointed_at(&self, p: RegAddr, o: u8, x: RegAddr) -> bool
+        ensures { result ≡ pointed_at (said_by self.now.certificate) self.now.address.0 p.0 o x.0 }
+    {
+        let claim = self.range(p);
+        let from = u16::from(claim.least) + u16::from(o);
+        let upto = u16::from(claim.greatest) + u16::from(o);
+        let at = u16::from(x.0);
+        from <= at && at <= upto
+    }
+
+    // What a write may leave in cell x. Of both halves of a pair nothing is known, also where one is the destination.
+    pub fn change_of(&self, w: Write, x: RegAddr) -> Option<NewValue>
+        ensures { change_in result ≡ change_of (said_by self.now.certificate) self.now.address.0 w x.0 }
+    {
+        match w {
+            Write::Register(y, v) if x == y => Some(v),
+            Write::Pointed(p, o) if self.pointed_at(p, o, x) => Some(NewValue::Unknown),
+            Write::RegisterAndPair(_, _, p) if in_pair(p, x) => Some(NewValue::Unknown),
+            Write::RegisterAndPair(y, q, _) if x == y => Some(NewValue::Within(q)),
+            _ => None,
         }
-        v += 1;
     }
-    true
-}
 
-// Some value of cell x, if it is claimed, is left on an edge from entry n.
-#[tactic(auto, unfolding(crate::specs::Values::feasible_for, crate::specs::Values::none_among))]
-fn feasible_for(n: Entry, e: Edge, x: RegAddr) -> bool
-    ensures { (C : Certificate) (a : ℕ) → n ≡ entry_of C a → result ≡ decide (feasible_for C a (edge_of e) x.0) }
-{
-    if !claimed_in(n, x) {
-        return true;
+    // How far c is from the end of the first claim that the bound falls towards.
+    fn distance(&self, c: u8) -> u8
+        ensures { result ≡ distance_from self.now.entry c }
+    {
+        match self.entry.direction {
+            1 => self.entry.first.high.saturating_sub(c),
+            2 => c.saturating_sub(self.entry.first.low),
+            _ => 0,
+        }
     }
-    if none_left(values_left(n, e, x)) {
-        return false;
+
+    // The bound where the first claimed cell holds c.
+    #[tactic(auto, using(crate::proofs::Laws::product), unfolding(safety::specs::Rules::bound_at))]
+    pub fn bound_at(&self, c: u8) -> u32
+        ensures { result ≡ bound_at (said_by self.now.certificate) self.now.address.0 c }
+    {
+        u32::from(self.entry.base) + u32::from(self.entry.slope) * u32::from(self.distance(c))
     }
-    true
-}
 
-// Some value of the compared and claimed cell is left on an edge from entry n.
-#[tactic(auto, unfolding(safety::specs::Rules::feasible, crate::specs::Values::feasible_for))]
-pub fn feasible(n: Entry, e: Edge) -> bool
-    ensures { (C : Certificate) (a : ℕ) → n ≡ entry_of C a → result ≡ decide (Rattle.safety.specs.Rules.feasible C a (edge_of e)) }
-{
-    feasible_for(n, e, n.compare.cell)
-}
-
-fn changed_if(b: bool, v: NewValue) -> Change
-    ensures { result ≡ pick b (Change.Changed v) Change.Unchanged }
-{
-    if b {
-        Change::Changed(v)
-    } else {
-        Change::Unchanged
+    // Its greatest value over the claim.
+    #[tactic(auto, using(crate::proofs::Laws::product), unfolding(safety::specs::Rules::worst))]
+    pub fn worst(&self) -> u32
+        ensures { result ≡ worst (said_by self.now.certificate) self.now.address.0 }
+    {
+        let e = self.entry;
+        if e.direction == 0 {
+            return u32::from(e.base);
+        }
+        u32::from(e.base) + u32::from(e.slope) * u32::from(e.first.high.saturating_sub(e.first.low))
     }
 }
 
-// x is among the addresses that a pointer's claim, plus the offset, reaches.
-fn pointed_at(n: Entry, p: RegAddr, o: u8, x: RegAddr) -> bool
-    ensures { (C : Certificate) (a : ℕ) → n ≡ entry_of C a → result ≡ pointed_at C a p.0 o x.0 }
+// x is one of both halves of pair p.
+fn in_pair(p: RegAddr, x: RegAddr) -> bool
+    ensures { result ≡ (eqb x.0 p.0 || eqb x.0 (p.0 + 1)) }
 {
-    let from = low_in(n, p) as u16 + o as u16;
-    let upto = high_in(n, p) as u16 + o as u16;
-    let at = x.0 as u16;
-    (from <= at) & (at <= upto)
-}
-
-// What a write to register y, a byte of q, and then to both halves of pair p may leave in cell x. Of both halves nothing is known, also where one is y.
-fn pair_change(y: RegAddr, q: Range, p: RegAddr, x: RegAddr) -> Change
-    ensures { (C : Certificate) (a : ℕ) → change_in result ≡ change_of C a (Write.RegisterAndPair y q p) x.0 }
-{
-    if (x.0 == p.0) | (x.0 as u16 == p.0 as u16 + 1) {
-        return Change::Changed(NewValue::Unknown);
-    }
-    changed_if(x.0 == y.0, NewValue::Within(q))
-}
-
-// What a write at entry n may leave in cell x.
-#[tactic(auto, using(crate::proofs::Laws::change_pick))]
-pub fn change_of(n: Entry, w: Write, x: RegAddr) -> Change
-    ensures { (C : Certificate) (a : ℕ) → n ≡ entry_of C a → change_in result ≡ change_of C a w x.0 }
-{
-    match w {
-        Write::Nothing => Change::Unchanged,
-        Write::Register(y, v) => changed_if(x.0 == y.0, v),
-        Write::Pointed(p, o) => changed_if(pointed_at(n, p, o, x), NewValue::Unknown),
-        Write::RegisterAndPair(y, q, p) => pair_change(y, q, p, x),
-    }
-}
-
-// a - b, 0 where b is greater.
-pub fn minus(a: u8, b: u8) -> u8
-    ensures { result ≡ a - b }
-{
-    if a < b { 0 } else { a - b }
-}
-
-// How far c is from the end of the first claim that the bound falls towards.
-fn distance(e: Entry, c: u8) -> u8
-    ensures { result ≡ distance_from e c }
-{
-    if e.direction == 1 {
-        return minus(e.first.high, c);
-    }
-    if e.direction == 2 {
-        return minus(c, e.first.low);
-    }
-    0
-}
-
-// The entry's bound where the first claimed cell holds c.
-#[tactic(auto, using(crate::proofs::Laws::product), unfolding(crate::specs::Bounds::bound_from))]
-pub fn bound_at(e: Entry, c: u8) -> u32
-    ensures { result ≡ bound_from e c }
-{
-    e.base as u32 + e.slope as u32 * distance(e, c) as u32
-}
-
-// Its greatest value over the claim.
-#[tactic(auto, using(crate::proofs::Laws::product), unfolding(crate::specs::Bounds::worst_from))]
-pub fn worst(e: Entry) -> u32
-    ensures { result ≡ worst_from e }
-{
-    if e.direction == 0 {
-        return e.base as u32;
-    }
-    e.base as u32 + e.slope as u32 * minus(e.first.high, e.first.low) as u32
+    x == p || u16::from(x.0) == u16::from(p.0) + 1
 }

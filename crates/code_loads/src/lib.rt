@@ -1,25 +1,27 @@
 // Loads from program memory on registers in place: LDC, LDCI and LDCD.
 // The functions are for the crate `execute`, which chooses among the actions.
+// The registers and the inputs stay two parameters: with a struct of both, each contract would have to say that the inputs stay, and the definitions
+// take them side by side.
 #![tactic(auto)]
 
 ghost use Rattle.std.specs.Prelude.{◌≡◌};
 ghost use Rattle.base.specs.Addresses.{rom_addr};
-ghost use Rattle.base.specs.Choice.{pick};
 ghost use Rattle.semantics.specs.Execute.{in_rom, code_address, load_code_of, stepped_pair, load_code_step_of};
+ghost use Rattle.semantics.specs.Stops.{next_of};
 
 use action::CodeAddress;
 use base::{RegAddr, RomAddr};
 use chip::{Inputs, Registers};
-use semantics::{Mode, Next};
+use semantics::{Mode, Next, Stop};
 
-// Goes on at pc; 14 where a is outside ROM.
+// Goes on at pc; refused where a is outside ROM.
 fn in_rom(image: &[u8], a: RomAddr, pc: RomAddr) -> Next
-    ensures { result ≡ in_rom image.now a.0 pc }
+    ensures { next_of result ≡ in_rom image.now a.0 pc }
 {
     Next {
-        pc: pc,
+        pc,
         mode: Mode::Running,
-        stop: operands::unless((a.0 as usize) < image.len(), 14),
+        stop: (image.len() <= usize::from(a.0)).then_some(Stop::ProgramMemory),
     }
 }
 
@@ -31,9 +33,7 @@ fn code_address(from: CodeAddress, regs: &Registers, rec: &Inputs) -> RomAddr
     match from {
         CodeAddress::Direct(a) => a,
         CodeAddress::Short(p, x) => RomAddr(base::displaced(operands::word_at(regs, rec, p), x)),
-        CodeAddress::Long(p, x) => {
-            RomAddr(std::num::wrapping_add_u16(operands::word_at(regs, rec, p), x))
-        }
+        CodeAddress::Long(p, x) => RomAddr(operands::word_at(regs, rec, p).wrapping_add(x)),
     }
 }
 
@@ -48,18 +48,11 @@ pub fn load_code(
     pc: RomAddr,
 ) -> Next
     ensures regs { regs.new ≡ (load_code_of d from image.now regs.old rec.now pc).regs }
-    ensures next { result ≡ (load_code_of d from image.now regs.old rec.now pc).next }
+    ensures next { next_of result ≡ (load_code_of d from image.now regs.old rec.now pc).next }
 {
     let a = code_address(from, regs, rec);
-    chip::store(regs, d, base::byte_at(image, a.0 as usize));
+    chip::store(regs, d, base::byte_at(image, usize::from(a.0)));
     in_rom(image, a, pc)
-}
-
-// 1, or -1 modulo 65536.
-fn unit(up: bool) -> u16
-    ensures { result ≡ pick up 1 65535 }
-{
-    if up { 1 } else { 65535 }
 }
 
 // A pair counts up or down.
@@ -67,9 +60,15 @@ fn unit(up: bool) -> u16
 fn step_pair(regs: &mut Registers, rec: &Inputs, p: RegAddr, up: bool)
     ensures { regs.new ≡ stepped_pair regs.old rec.now p.0 up }
 {
-    let w = std::num::wrapping_add_u16(operands::word_at(regs, rec, p), unit(up));
-    chip::store(regs, p, (w / 256) as u8);
-    chip::store(regs, operands::behind(p), (w % 256) as u8);
+    let word = operands::word_at(regs, rec, p);
+    let stepped = if up {
+        word.wrapping_add(1)
+    } else {
+        word.wrapping_sub(1)
+    };
+    let [high, low] = stepped.to_be_bytes();
+    chip::store(regs, p, high);
+    chip::store(regs, operands::behind(p), low);
 }
 
 // LDCI, LDCD: the destination is loaded, then the pair is stepped as it then is.
@@ -84,10 +83,10 @@ pub fn load_code_step(
     pc: RomAddr,
 ) -> Next
     ensures regs { regs.new ≡ (load_code_step_of d p up image.now regs.old rec.now pc).regs }
-    ensures next { result ≡ (load_code_step_of d p up image.now regs.old rec.now pc).next }
+    ensures next { next_of result ≡ (load_code_step_of d p up image.now regs.old rec.now pc).next }
 {
     let a = RomAddr(operands::word_at(regs, rec, p));
-    chip::store(regs, d, base::byte_at(image, a.0 as usize));
+    chip::store(regs, d, base::byte_at(image, usize::from(a.0)));
     step_pair(regs, rec, p, up);
     in_rom(image, a, pc)
 }

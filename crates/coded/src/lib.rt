@@ -1,92 +1,79 @@
 // An instruction's bytes as a value, and those of its operands that can be refused.
 #![tactic(auto)]
 
-ghost use Rattle.std.specs.Prelude.{◌≡◌, [], ◌∷◌, ◌/◌, ◌%◌};
-ghost use Rattle.coded.specs.Operands.{nibble_pair, nibbles, even_pair, long_offset};
-ghost use Rattle.coded.specs.Answer.{joined, coded};
+ghost use Rattle.std.specs.Prelude.{◌≡◌};
+ghost use Rattle.coded.specs.Operands.{nibble_pair, even_register, offset_pair};
+ghost use Rattle.coded.specs.Answer.{code_error_number, code_outcome};
 
 use base::RegAddr;
+use std::error::Error;
+use std::fmt;
 
-// An instruction's bytes, or 8 or 12.
-#[derive(Clone, Copy)]
-pub enum Coded {
+// An instruction's bytes.
+#[derive(Clone, Copy, Debug, PartialEq, Eq)]
+pub enum Code {
     One(u8),
     Two(u8, u8),
     Three(u8, u8, u8),
     Four(u8, u8, u8, u8),
-    TooWide,
-    OddPair,
 }
 
-// Two numbers as the halves of a byte, or 8.
-#[derive(Clone, Copy)]
-enum Joined {
-    Byte(u8),
-    TooWide,
+// Why an instruction has no bytes: 8, a field is too wide, or an offset stands on pair 0 or 1; 12, an odd pair for JP or CALL.
+#[derive(Clone, Copy, Debug, PartialEq, Eq)]
+pub enum CodeError {
+    TooWide = 8,
+    OddPair = 12,
 }
 
-fn join(hi: u8, lo: u8) -> Joined
-    ensures { joined result ≡ nibble_pair hi lo }
+impl fmt::Display for CodeError {
+    fn fmt<W: fmt::Write>(&self, f: &mut fmt::Formatter<W>) -> fmt::Result {
+        f.write_str(match self {
+            CodeError::TooWide => "an operand is too wide for its field",
+            CodeError::OddPair => "JP or CALL through an odd register pair",
+        })
+    }
+}
+
+impl Error for CodeError {}
+
+// The number of a refusal in the table of answers.
+impl From<CodeError> for u8 {
+    ghost from_gives = { λ error number. number ≡ code_error_number error };
+
+    fn from(error: CodeError) -> u8 {
+        error as u8
+    }
+}
+
+// Two numbers as the halves of a byte.
+pub fn byte(high: u8, low: u8) -> Result<u8, CodeError>
+    ensures { code_outcome result ≡ nibble_pair high low }
 {
-    if hi < 16 {
-        if lo < 16 {
-            Joined::Byte(hi * 16 + lo)
-        } else {
-            Joined::TooWide
-        }
+    if high < 16 && low < 16 {
+        Ok(high * 16 + low)
     } else {
-        Joined::TooWide
+        Err(CodeError::TooWide)
     }
 }
 
-// An opcode and two nibbles.
-pub fn in_nibbles(op: u8, hi: u8, lo: u8) -> Coded
-    ensures { coded result ≡ nibbles op hi lo [] }
-{
-    match join(hi, lo) {
-        Joined::Byte(b) => Coded::Two(op, b),
-        Joined::TooWide => Coded::TooWide,
-    }
-}
-
-// An opcode, two nibbles and a byte.
-pub fn in_nibbles_byte(op: u8, hi: u8, lo: u8, x: u8) -> Coded
-    ensures { coded result ≡ nibbles op hi lo (x ∷ []) }
-{
-    match join(hi, lo) {
-        Joined::Byte(b) => Coded::Three(op, b, x),
-        Joined::TooWide => Coded::TooWide,
-    }
-}
-
-// An opcode, two nibbles and 16 bits, low half first.
-pub fn in_nibbles_word(op: u8, hi: u8, lo: u8, x: u16) -> Coded
-    ensures { coded result ≡ nibbles op hi lo (x % 256 ∷ x / 256 ∷ []) }
-{
-    match join(hi, lo) {
-        Joined::Byte(b) => Coded::Four(op, b, (x % 256) as u8, (x / 256) as u8),
-        Joined::TooWide => Coded::TooWide,
-    }
-}
-
-// An opcode and an even register address.
-pub fn even_pair(op: u8, at: RegAddr) -> Coded
-    ensures { coded result ≡ even_pair op at.0 }
+// The byte of an even register address.
+pub fn even_register(at: RegAddr) -> Result<u8, CodeError>
+    ensures { code_outcome result ≡ even_register at.0 }
 {
     if at.0 % 2 == 0 {
-        Coded::Two(op, at.0)
+        Ok(at.0)
     } else {
-        Coded::OddPair
+        Err(CodeError::OddPair)
     }
 }
 
-// A 16-bit offset, not on pair 0 or 1.
-pub fn long_offset(op: u8, r: u8, p: u8, x: u16) -> Coded
-    ensures { coded result ≡ long_offset op r p x }
+// A pair that a 16-bit offset stands on: not 0 or 1, where the code means a direct address.
+pub fn offset_pair(pair: u8) -> Result<u8, CodeError>
+    ensures { code_outcome result ≡ offset_pair pair }
 {
-    if p < 2 {
-        Coded::TooWide
+    if pair < 2 {
+        Err(CodeError::TooWide)
     } else {
-        in_nibbles_word(op, r, p, x)
+        Ok(pair)
     }
 }

@@ -1,33 +1,58 @@
 // Columns 0 to 6 of the opcode map.
 #![tactic(auto)]
 
-ghost use Rattle.std.specs.Prelude.{◌≡◌};
+ghost use Rattle.std.specs.Prelude.{◌≡◌, ◌*◌, ◌+◌, ◌/◌, ◌%◌, ◌==◌, Ok, Err};
+ghost use Rattle.base.specs.Choice.{pick};
 ghost use Rattle.isa.specs.Map.{alu_row, unary_row, unary_column, alu_column, alu_cell, other_cell, alu_names, unary_names};
-ghost use Rattle.isa.specs.Map.Cell.{call_at, jump_at};
 ghost use Rattle.isa.specs.Answer.{decoded};
+ghost use Rattle.isa.specs.declared.DecodeError.TheVariants.{OddPair};
 ghost use Rattle.columns.specs.Form.{answer_of};
 
-use base::{RegAddr, RomAddr};
-use isa::Decoded::Found;
+use base::{RegAddr, RomAddr, word};
 use isa::{
-    ALL_FLAGS, Alu, AluRow, Decoded, FlagSet, Instruction, NO_FLAGS, RESULT_FLAGS, Unary, UnaryRow,
+    ALL_FLAGS, Alu, DecodeError, Decoded, FlagSet, Instruction, NO_FLAGS, RESULT_FLAGS, Unary,
+    UnaryRow,
 };
 
-fn alu_row(row: u8) -> AluRow
+// The three bytes behind an instruction's first.
+#[derive(Clone, Copy, Debug, PartialEq, Eq)]
+pub struct Following {
+    pub first: u8,
+    pub second: u8,
+    pub third: u8,
+}
+
+impl Following {
+    // The halves of the first byte, high half first.
+    pub fn nibbles(self) -> (u8, u8)
+        ensures { result ≡ (self.first / 16, self.first % 16) }
+    {
+        (self.first / 16, self.first % 16)
+    }
+
+    // The address in the first two bytes, high half first.
+    pub fn address(self) -> RomAddr
+        ensures { result.0 ≡ self.first * 256 + self.second }
+    {
+        RomAddr(word(self.first, self.second))
+    }
+}
+
+fn alu_row(row: u8) -> Option<Alu>
     ensures { result ≡ alu_row row }
 {
     match row {
-        0 => AluRow::Op(Alu::Add),
-        1 => AluRow::Op(Alu::Adc),
-        2 => AluRow::Op(Alu::Sub),
-        3 => AluRow::Op(Alu::Sbc),
-        4 => AluRow::Op(Alu::Or),
-        5 => AluRow::Op(Alu::And),
-        6 => AluRow::Op(Alu::Tcm),
-        7 => AluRow::Op(Alu::Tm),
-        10 => AluRow::Op(Alu::Cp),
-        11 => AluRow::Op(Alu::Xor),
-        _ => AluRow::Other,
+        0 => Some(Alu::Add),
+        1 => Some(Alu::Adc),
+        2 => Some(Alu::Sub),
+        3 => Some(Alu::Sbc),
+        4 => Some(Alu::Or),
+        5 => Some(Alu::And),
+        6 => Some(Alu::Tcm),
+        7 => Some(Alu::Tm),
+        10 => Some(Alu::Cp),
+        11 => Some(Alu::Xor),
+        _ => None,
     }
 }
 
@@ -36,104 +61,70 @@ fn alu_names(op: Alu) -> FlagSet
     ensures { result ≡ alu_names op }
 {
     match op {
-        Alu::Add => ALL_FLAGS,
-        Alu::Adc => ALL_FLAGS,
-        Alu::Sub => ALL_FLAGS,
-        Alu::Sbc => ALL_FLAGS,
-        Alu::Or => RESULT_FLAGS,
-        Alu::And => RESULT_FLAGS,
-        Alu::Tcm => RESULT_FLAGS,
-        Alu::Tm => RESULT_FLAGS,
-        Alu::Cp => ALL_FLAGS,
-        Alu::Xor => RESULT_FLAGS,
+        Alu::Add | Alu::Adc | Alu::Sub | Alu::Sbc | Alu::Cp => ALL_FLAGS,
+        Alu::Or | Alu::And | Alu::Tcm | Alu::Tm | Alu::Xor => RESULT_FLAGS,
+    }
+}
+
+// A register pair; an odd one is refused.
+fn even_pair(pair: RegAddr) -> Result<RegAddr, DecodeError>
+    ensures { result ≡ pick (pair.0 % 2 == 0) (Ok pair) (Err OddPair) }
+{
+    if pair.0 % 2 == 0 {
+        Ok(pair)
+    } else {
+        Err(DecodeError::OddPair)
     }
 }
 
 // Columns 2 to 6 in the rows of an operation.
-fn alu_form(low: u8, op: Alu, row: u8, b1: u8, b2: u8, b3: u8) -> Decoded
-    ensures { decoded result ≡ answer_of (alu_cell low op) row b1 b2 b3 }
+fn alu_form(low: u8, op: Alu, row: u8, bytes: Following) -> Decoded
+    ensures { decoded (Ok result) ≡ answer_of (alu_cell low op) row bytes.first bytes.second bytes.third }
 {
     let names = alu_names(op);
+    let (d, s) = bytes.nibbles();
+    let one = RegAddr(bytes.first);
+    let two = RegAddr(bytes.second);
     match low {
-        2 => Found(Instruction::AluWork(op, b1 / 16, b1 % 16), 2, names),
-        3 => Found(Instruction::AluWorkAt(op, b1 / 16, b1 % 16), 2, names),
-        4 => Found(Instruction::AluReg(op, RegAddr(b2), RegAddr(b1)), 3, names),
-        5 => Found(
-            Instruction::AluRegAt(op, RegAddr(b2), RegAddr(b1)),
-            3,
-            names,
-        ),
-        _ => Found(Instruction::AluImm(op, RegAddr(b1), b2), 3, names),
+        2 => Decoded::new(Instruction::AluWork(op, d, s), 2, names),
+        3 => Decoded::new(Instruction::AluWorkAt(op, d, s), 2, names),
+        4 => Decoded::new(Instruction::AluReg(op, two, one), 3, names),
+        5 => Decoded::new(Instruction::AluRegAt(op, two, one), 3, names),
+        _ => Decoded::new(Instruction::AluImm(op, one, bytes.second), 3, names),
     }
 }
 
 // Columns 2 to 6 in the other rows.
-fn other_form(low: u8, row: u8, b1: u8, b2: u8, b3: u8) -> Decoded
-    ensures { decoded result ≡ answer_of (other_cell low row) row b1 b2 b3 }
+fn other_form(low: u8, row: u8, bytes: Following) -> Result<Decoded, DecodeError>
+    ensures { decoded result ≡ answer_of (other_cell low row) row bytes.first bytes.second bytes.third }
 {
-    let one = RegAddr(b1);
-    let two = RegAddr(b2);
-    match low {
-        2 => match row {
-            14 => Found(Instruction::LdcDec(b1 / 16, b1 % 16), 2, NO_FLAGS),
-            _ => Decoded::Undefined,
-        },
-        3 => match row {
-            12 => Found(Instruction::LdcLoad(b1 / 16, b1 % 16), 2, NO_FLAGS),
-            13 => Found(Instruction::LdcStore(b1 / 16, b1 % 16), 2, NO_FLAGS),
-            14 => Found(Instruction::LdcInc(b1 / 16, b1 % 16), 2, NO_FLAGS),
-            _ => Decoded::Undefined,
-        },
-        4 => match row {
-            14 => Found(Instruction::LoadReg(two, one), 3, NO_FLAGS),
-            15 => call_at(b1),
-            _ => Decoded::Undefined,
-        },
-        5 => match row {
-            14 => Found(Instruction::LoadRegAt(two, one), 3, NO_FLAGS),
-            15 => Found(Instruction::LoadAtReg(two, one), 3, NO_FLAGS),
-            _ => Decoded::Undefined,
-        },
-        _ => match row {
-            13 => Found(Instruction::LoadAtImm(one, b2), 3, NO_FLAGS),
-            14 => Found(Instruction::LoadImm(one, b2), 3, NO_FLAGS),
-            15 => Found(
-                Instruction::Call(RomAddr((b1 as u16) * 256 + (b2 as u16))),
-                3,
-                NO_FLAGS,
-            ),
-            _ => Decoded::Undefined,
-        },
-    }
-}
-
-fn call_at(b1: u8) -> Decoded
-    ensures { decoded result ≡ answer_of call_at 0 b1 0 0 }
-{
-    if b1 % 2 == 0 {
-        Found(Instruction::CallAt(RegAddr(b1)), 2, NO_FLAGS)
-    } else {
-        Decoded::OddPair
-    }
-}
-
-fn jump_at(b1: u8) -> Decoded
-    ensures { decoded result ≡ answer_of jump_at 0 b1 0 0 }
-{
-    if b1 % 2 == 0 {
-        Found(Instruction::JumpAt(RegAddr(b1)), 2, NO_FLAGS)
-    } else {
-        Decoded::OddPair
-    }
+    let (r, pair) = bytes.nibbles();
+    let one = RegAddr(bytes.first);
+    let two = RegAddr(bytes.second);
+    Ok(match (low, row) {
+        (2, 14) => Decoded::plain(Instruction::LdcDec(r, pair), 2),
+        (3, 12) => Decoded::plain(Instruction::LdcLoad(r, pair), 2),
+        (3, 13) => Decoded::plain(Instruction::LdcStore(r, pair), 2),
+        (3, 14) => Decoded::plain(Instruction::LdcInc(r, pair), 2),
+        (4, 14) => Decoded::plain(Instruction::LoadReg(two, one), 3),
+        (4, 15) => Decoded::plain(Instruction::CallAt(even_pair(one)?), 2),
+        (5, 14) => Decoded::plain(Instruction::LoadRegAt(two, one), 3),
+        (5, 15) => Decoded::plain(Instruction::LoadAtReg(two, one), 3),
+        (2..=5, _) => return Err(DecodeError::Undefined),
+        (_, 13) => Decoded::plain(Instruction::LoadAtImm(one, bytes.second), 3),
+        (_, 14) => Decoded::plain(Instruction::LoadImm(one, bytes.second), 3),
+        (_, 15) => Decoded::plain(Instruction::Call(bytes.address()), 3),
+        _ => return Err(DecodeError::Undefined),
+    })
 }
 
 // Columns 2 to 6.
-pub fn alu_column(low: u8, row: u8, b1: u8, b2: u8, b3: u8) -> Decoded
-    ensures { decoded result ≡ answer_of (alu_column low row) row b1 b2 b3 }
+pub fn alu_column(low: u8, row: u8, bytes: Following) -> Result<Decoded, DecodeError>
+    ensures { decoded result ≡ answer_of (alu_column low row) row bytes.first bytes.second bytes.third }
 {
     match alu_row(row) {
-        AluRow::Op(a) => alu_form(low, a, row, b1, b2, b3),
-        AluRow::Other => other_form(low, row, b1, b2, b3),
+        Some(op) => Ok(alu_form(low, op, row, bytes)),
+        None => other_form(low, row, bytes),
     }
 }
 
@@ -161,55 +152,33 @@ fn unary_names(op: Unary) -> FlagSet
     ensures { result ≡ unary_names op }
 {
     match op {
-        Unary::Dec => RESULT_FLAGS,
-        Unary::Rlc => ALL_FLAGS,
-        Unary::Inc => RESULT_FLAGS,
-        Unary::Com => RESULT_FLAGS,
-        Unary::Rl => ALL_FLAGS,
         Unary::Clr => NO_FLAGS,
-        Unary::Rrc => ALL_FLAGS,
-        Unary::Sra => ALL_FLAGS,
-        Unary::Rr => ALL_FLAGS,
+        Unary::Dec | Unary::Inc | Unary::Com => RESULT_FLAGS,
+        Unary::Rlc | Unary::Rl | Unary::Rrc | Unary::Sra | Unary::Rr => ALL_FLAGS,
     }
 }
 
 // Columns 0 and 1.
-pub fn unary_column(low: u8, row: u8, b1: u8, b2: u8, b3: u8) -> Decoded
-    ensures { decoded result ≡ answer_of (unary_column low row) row b1 b2 b3 }
+pub fn unary_column(low: u8, row: u8, bytes: Following) -> Result<Decoded, DecodeError>
+    ensures { decoded result ≡ answer_of (unary_column low row) row bytes.first bytes.second bytes.third }
 {
+    let r = RegAddr(bytes.first);
+    let direct = low == 0;
     match unary_row(row) {
-        UnaryRow::Op(u) => {
-            let names = unary_names(u);
-            if low == 0 {
-                Found(Instruction::UnaryReg(u, RegAddr(b1)), 2, names)
-            } else {
-                Found(Instruction::UnaryAt(u, RegAddr(b1)), 2, names)
-            }
-        }
-        UnaryRow::Pop => {
-            if low == 0 {
-                Found(Instruction::Pop(RegAddr(b1)), 2, NO_FLAGS)
-            } else {
-                Found(Instruction::PopAt(RegAddr(b1)), 2, NO_FLAGS)
-            }
-        }
-        UnaryRow::Push => {
-            if low == 0 {
-                Found(Instruction::Push(RegAddr(b1)), 2, NO_FLAGS)
-            } else {
-                Found(Instruction::PushAt(RegAddr(b1)), 2, NO_FLAGS)
-            }
-        }
-        UnaryRow::Other => {
-            if low == 0 {
-                if row == 3 {
-                    jump_at(b1)
-                } else {
-                    Decoded::Undefined
-                }
-            } else {
-                Decoded::Undefined
-            }
-        }
+        UnaryRow::Op(op) if direct => Ok(Decoded::new(
+            Instruction::UnaryReg(op, r),
+            2,
+            unary_names(op),
+        )),
+        UnaryRow::Op(op) => Ok(Decoded::new(Instruction::UnaryAt(op, r), 2, unary_names(op))),
+        UnaryRow::Pop if direct => Ok(Decoded::plain(Instruction::Pop(r), 2)),
+        UnaryRow::Pop => Ok(Decoded::plain(Instruction::PopAt(r), 2)),
+        UnaryRow::Push if direct => Ok(Decoded::plain(Instruction::Push(r), 2)),
+        UnaryRow::Push => Ok(Decoded::plain(Instruction::PushAt(r), 2)),
+        UnaryRow::Other if direct && row == 3 => Ok(Decoded::plain(
+            Instruction::JumpAt(even_pair(r)?),
+            2,
+        )),
+        UnaryRow::Other => Err(DecodeError::Undefined),
     }
 }

@@ -1,7 +1,6 @@
 // The program `bridgecheck`, for any two writers.
 #![tactic(auto)]
 
-use hex_write::Written;
 use report::REPORT_LENGTH;
 use std::env::FillError;
 use std::io;
@@ -16,18 +15,15 @@ fn judge_folder(
 ) -> io::Result<()> {
     let mut out = [0u8; REPORT_LENGTH];
     match files::judge_files(rt, b"image.hex", b"cert.hex", &mut out, errors) {
-        Written::Bytes(n) => output.write_all(&out[..n]),
-        Written::WrongLength => Ok(()),
+        Ok(n) => output.write_all(&out[..n]),
+        Err(_) => Ok(()),
     }
 }
 
 // Whether the program was started with an argument.
 fn has_argument(rt: &impl Env) -> bool {
     let mut first = [0u8; 1];
-    match rt.arg(1, &mut first) {
-        Err(FillError::NotPresent) => false,
-        _ => true,
-    }
+    !matches!(rt.arg(1, &mut first), Err(FillError::NotPresent))
 }
 
 // Prints the judgement on the first writer, and on the second what is wrong in a file. With arguments it tells the usage and judges nothing. It fails where

@@ -2,13 +2,11 @@
 // records; row 4 is COUNT summaries. A program of its own, since `run` takes other instructions in a program that also has `run_covered`.
 #![tactic(auto)]
 
-use base::{IMAGE_4K, LONG_CERTIFICATE_LENGTH, Profile};
-use bench_programs::{SCHEDULE, program, schedule, tell};
+use base::{IMAGE_4K, InvalidArgument, LONG_CERTIFICATE_LENGTH, Profile, RomAddr};
+use bench_programs::{Arguments, SCHEDULE, program, schedule, tell};
 use coverage::{Map, WORDS};
 use semantics::{Configuration, State};
 use std::io;
-use test_support::{print, print_number};
-use uncovered::Lowest;
 
 // The program from reset for `parts` parts, with one map.
 fn cover_parts(
@@ -30,6 +28,8 @@ fn cover_parts(
 }
 
 // The program of a row, and how many addresses it has marked.
+// A function of its own, as `work` in `machine_bench`.
+#[inline(never)]
 fn cover(rt: &impl Print, what: u64, count: u64, seed: u32) -> io::Result<()> {
     let mut map: Map = [0; WORDS];
     tell(
@@ -41,57 +41,45 @@ fn cover(rt: &impl Print, what: u64, count: u64, seed: u32) -> io::Result<()> {
 }
 
 // The address of an answer, 0 where it has none.
-fn address_of(lowest: Lowest) -> u16 {
+fn address_of(lowest: Result<Option<RomAddr>, InvalidArgument>) -> u16 {
     match lowest {
-        Lowest::At(a) => a.0,
+        Ok(Some(a)) => a.0,
         _ => 0,
     }
 }
 
 // The marks and the lowest unmarked start, added up.
 fn summary(cert: &[u8], map: &Map) -> u64 {
-    coverage::count(map) as u64 + address_of(uncovered::lowest_unmarked(cert, map)) as u64
+    u64::from(coverage::count(map)) + u64::from(address_of(uncovered::lowest_unmarked(cert, map)))
 }
 
 // Summaries of a certificate whose every address is a start. All words of the map but the last are full; the last is another each time.
 fn summaries(count: u64) -> u64 {
     let cert = [1u8; LONG_CERTIFICATE_LENGTH];
     let mut map: Map = [u64::MAX; WORDS];
-    let mut sum = 0;
+    let mut sum = 0u64;
     for done in 0..count {
         map[WORDS - 1] = count - done;
-        sum = std::num::wrapping_add_u64(sum, summary(&cert, &map));
+        sum = sum.wrapping_add(summary(&cert, &map));
     }
     sum
 }
 
-fn cover_rows(rt: &impl Print, count: u64, seed: u32) -> io::Result<()> {
-    for what in 1..4 {
-        cover(rt, what, count, seed)?;
-    }
-    Ok(())
-}
-
-fn tell_summaries(rt: &impl Print, count: u64) -> io::Result<()> {
-    println!(rt; "{}", summaries(count))
-}
-
-fn bench(rt: &impl Print, what: u64, count: u64, seed: u32) -> io::Result<()> {
-    match what {
-        0 => cover_rows(rt, count, seed)?,
-        4 => {}
-        _ => cover(rt, what, count, seed)?,
-    }
-    if (what == 0) | (what == 4) {
-        tell_summaries(rt, count)?;
+// As in `machine_bench`.
+fn bench(rt: &impl Print, Arguments { what, count, seed }: Arguments) -> io::Result<()> {
+    let rows = test_support::rows_of(what, 4);
+    for row in rows.first..=rows.last {
+        match row {
+            4 => println!(rt; "{}", summaries(count))?,
+            _ => cover(rt, row, count, seed)?,
+        }
     }
     Ok(())
 }
 
 fn main(rt: HostRuntime) -> io::Result<()> {
-    let a = bench_programs::read_arguments(&rt)?;
-    if a.seed != 0 {
-        bench(&rt, a.what, a.count, a.seed)?;
+    match bench_programs::read_arguments(&rt)? {
+        Some(arguments) => bench(&rt, arguments),
+        None => Ok(()),
     }
-    Ok(())
 }

@@ -22,7 +22,7 @@ pub fn mark(map: &mut [u64], a: RomAddr)
     let word = (a.0 / WORD_BITS) as usize;
     let bit = a.0 % WORD_BITS;
     if word < map.len() {
-        map[word] = map[word] | (1 << bit);
+        map[word] |= 1 << bit;
     }
 }
 
@@ -30,13 +30,11 @@ pub fn mark(map: &mut [u64], a: RomAddr)
 pub fn count(map: &Map) -> u32
     ensures { result ≡ marked_count map.now }
 {
-    // Of a slice's words a proof knows that they fit 64 bits.
+    // Of a slice's words a proof knows that they fit 64 bits; by index, since of what `for word in words` gives it does not (tried).
     let words: &[u64] = map;
     let mut n = 0;
-    let mut i = 0;
-    while i < WORDS {
-        n += u64::count_ones(words[i]);
-        i += 1;
+    for i in 0..WORDS {
+        n += words[i].count_ones();
     }
     n
 }

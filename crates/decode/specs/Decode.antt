@@ -1,7 +1,7 @@
 -- What decoding at a position gives: the map's cell for the first byte, the operands from the bytes after it, and the flags that the first byte
 -- alone names (02, request 07).
 -- Assumes nothing.
-use Rattle.std.specs.Prelude.{ℕ, ◌+◌, ◌-◌, ◌/◌, List, length, get_or, ltb, leb}
+use Rattle.std.specs.Prelude.{ℕ, ◌+◌, ◌-◌, ◌/◌, List, Option, Some, None, length, get_or, ltb, leb}
 use Rattle.base.specs.Choice.{pick}
 use Rattle.base.specs.Outcome.{Outcome}
 use Rattle.base.specs.Outcome.Outcome.{value, refused}
@@ -9,14 +9,14 @@ use Rattle.isa.specs.Flags.{no_flags}
 use Rattle.isa.specs.Map.{Cell, cell_of, cell_length}
 use Rattle.isa.specs.Map.Cell.{empty, implied}
 use Rattle.isa.specs.declared.FlagSet.{FlagSet}
+use Rattle.isa.specs.declared.Implied.{Implied}
 use Rattle.isa.specs.declared.Instruction.{Instruction}
 use Rattle.columns.specs.Form.{answer_of}
-use Rattle.decode.specs.declared.ImpliedRow.{ImpliedRow}
 
 -- the cell of a row of column F that holds this, and the flags that it names
-abbrev pub implied_cell : ImpliedRow → Cell × FlagSet
-implied_cell (ImpliedRow.Op p f) = (implied p, f)
-implied_cell ImpliedRow.Other = (empty, no_flags)
+abbrev pub implied_cell : Option (Implied × FlagSet) → Cell × FlagSet
+implied_cell (Some p) = (implied p.0, p.1)
+implied_cell None = (empty, no_flags)
 
 -- at a position of a byte list: 10 where the first byte, or a byte that its length calls for, is not there; an undefined first byte
 -- has length 0, so it is 11 wherever it stands

@@ -79,7 +79,7 @@ use Rattle.logger_cases.specs.Linearised as linearised
 use Rattle.logger_cases.specs.Program as program
 use Rattle.logger_cases.specs.Program.{certificate_with}
 use Rattle.logger_cases.specs.SmallPart as smallPart
-use Rattle.uncovered.specs.declared.Lowest.TheVariants.{At, AllMarked, Refused}
+use Rattle.uncovered.specs.Lowest.Lowest.{At, AllMarked, Refused}
 use Rattle.uncovered.specs.Lowest.{lowest_of, LowestStart}
 use Rattle.uncovered.specs.LowestLaws.{lowest_at, at_lowest, all_marked, marked_all, lowest_refused, refused_length}
 use Rattle.hex_line.specs.declared.Fields.{Fields}

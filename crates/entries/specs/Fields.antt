@@ -2,11 +2,16 @@
 -- Assumes nothing.
 use Rattle.std.specs.Prelude.{ℕ, ◌+◌, List, get_or}
 use Rattle.base.specs.Addresses.{reg_addr, rom_addr}
-use Rattle.certificate.specs.Layout.{Certificate, word}
+use Rattle.certificate.specs.Layout.{Certificate, word, certificate_of}
+use Rattle.entries.specs.declared.Certificate as lent
 use Rattle.entries.specs.declared.Claim.{Claim}
 use Rattle.entries.specs.declared.Entry.{Entry}
 use Rattle.entries.specs.declared.CellRow.{CellRow}
 use Rattle.entries.specs.declared.RoutineRow.{RoutineRow}
+
+-- what a lent certificate says
+abbrev pub said_by : lent.Certificate → Certificate
+said_by c = certificate_of c.bytes.now
 
 -- cell, lo, hi
 abbrev pub claim_of : List ℕ → ℕ → Claim

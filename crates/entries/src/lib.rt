@@ -1,10 +1,11 @@
-// The certificate's parts and fields. Each read is total: past the end a byte counts as 0, as in the definitions.
+// The certificate's parts and fields. Each read is total: past the end a byte counts as 0, as in the definitions. Routines, depths, cells, sides, classes
+// and directions are bytes as they stand, also where rule 20 refuses them: its formulas, and those of `Layout`, speak of the numbers.
 #![tactic(auto)]
 
 ghost use Rattle.std.specs.Prelude.{◌≡◌, take, drop, ◌+◌, ◌<◌, ◌≤◌};
 ghost use Rattle.certificate.specs.Layout.{word, entry_part, cell_part, row_part, certificate_of};
 ghost use Rattle.base.specs.Lengths.{short_certificate_length};
-ghost use Rattle.entries.specs.Fields.{claim_of, entry_from, entry_of, cell_row_of, row_of};
+ghost use Rattle.entries.specs.Fields.{said_by, claim_of, entry_from, entry_of, cell_row_of, row_of};
 
 use base::{RegAddr, RomAddr, byte_at};
 
@@ -40,6 +41,12 @@ pub const NO_CELL: u8 = 255;
 // The depth where SP is not yet loaded.
 pub const UNLOADED: u8 = 255;
 
+// A lent certificate.
+#[derive(Clone, Copy)]
+pub struct Certificate<'a> {
+    pub bytes: &'a [u8],
+}
+
 // That a cell holds low to high; cell FFH is no claim.
 #[derive(Clone, Copy)]
 pub struct Claim {
@@ -49,7 +56,7 @@ pub struct Claim {
 }
 
 // That the flags are those of `CP cell,#number`; cell FFH is no compare.
-#[derive(Clone, Copy)]
+#[derive(Clone, Copy, Debug, PartialEq, Eq)]
 pub struct Compare {
     pub cell: RegAddr,
     pub number: u8,
@@ -90,7 +97,7 @@ fn word_at(s: &[u8], i: usize) -> u16
     requires { i < 65536 }
     ensures { result ≡ word s.now i }
 {
-    byte_at(s, i) as u16 * 256 + byte_at(s, i + 1) as u16
+    base::word(byte_at(s, i), byte_at(s, i + 1))
 }
 
 // The w bytes from i on, or as many as there are.
@@ -126,24 +133,7 @@ pub fn entry_part(cert: &[u8], a: RomAddr) -> &[u8]
     ensures fields { entry_from result.now ≡ entry_of (certificate_of cert.now) a.0 }
 {
     if a.0 < base::LARGEST_ROM {
-        return part_at(cert, ENTRY_LENGTH * a.0 as usize, ENTRY_LENGTH);
-    }
-    &cert[0..0]
-}
-
-// The row of a register, as that part of the certificate.
-pub fn cell_part(cert: &[u8], x: RegAddr) -> &[u8]
-    ensures { result.now ≡ cell_part cert.now x.0 }
-{
-    part_at(cert, CELLS_AT + CELL_LENGTH * x.0 as usize, CELL_LENGTH)
-}
-
-// The row of a routine, as that part of the certificate; past the last an empty part.
-pub fn row_part(cert: &[u8], n: u8) -> &[u8]
-    ensures { result.now ≡ row_part cert.now n }
-{
-    if n < ROUTINES {
-        return part_at(cert, ROWS_AT + ROW_LENGTH * n as usize, ROW_LENGTH);
+        return part_at(cert, ENTRY_LENGTH * usize::from(a.0), ENTRY_LENGTH);
     }
     &cert[0..0]
 }
@@ -180,52 +170,93 @@ fn claim_at(e: &[u8], i: usize) -> Claim
     }
 }
 
-// The row of a register, field by field.
-#[tactic(auto, unfolding(certificate::specs::Layout::certificate_of, certificate::specs::Layout::certificate_from))]
-pub fn cell_row(cert: &[u8], x: RegAddr) -> CellRow
-    ensures { result ≡ cell_row_of (certificate_of cert.now) x.0 }
-{
-    let b = cell_part(cert, x);
-    CellRow {
-        class: byte_at(b, 0),
-        limit: byte_at(b, 1),
-        table: byte_at(b, 2),
-    }
-}
-
-// The row of a routine, field by field.
-#[tactic(auto, unfolding(certificate::specs::Layout::certificate_of, certificate::specs::Layout::certificate_from))]
-pub fn routine_row(cert: &[u8], n: u8) -> RoutineRow
-    ensures { result ≡ row_of (certificate_of cert.now) n }
-{
-    let b = row_part(cert, n);
-    RoutineRow {
-        start: RomAddr(word_at(b, 0)),
-        side: byte_at(b, 2),
-        need: byte_at(b, 3),
-        bound: word_at(b, 4),
-    }
-}
-
-// The stack is floor to top - 1.
-#[tactic(auto, unfolding(certificate::specs::Layout::certificate_of, certificate::specs::Layout::certificate_from))]
-pub fn stack_floor(cert: &[u8]) -> u8
-    ensures { result ≡ (certificate_of cert.now).floor }
-{
-    byte_at(cert, FLOOR_AT)
-}
-
-#[tactic(auto, unfolding(certificate::specs::Layout::certificate_of, certificate::specs::Layout::certificate_from))]
-pub fn stack_top(cert: &[u8]) -> u8
-    ensures { result ≡ (certificate_of cert.now).top }
-{
-    byte_at(cert, TOP_AT)
-}
-
 // The cycles of an interrupt entry.
-#[tactic(auto, unfolding(certificate::specs::Layout::certificate_of, certificate::specs::Layout::certificate_from))]
 pub fn entry_cost(cert: &[u8]) -> u8
     ensures { result ≡ (certificate_of cert.now).entry_cost }
 {
-    byte_at(cert, ENTRY_COST_AT)
+    Certificate { bytes: cert }.entry_cost()
+}
+
+impl<'a> Certificate<'a> {
+    // The fields of the entry of a ROM address, read from its part.
+    pub fn entry(&self, a: RomAddr) -> Entry
+        ensures { result ≡ entry_of (said_by self.now) a.0 }
+    {
+        entry_of(entry_part(self.bytes, a))
+    }
+
+    // The row of a register, as that part of the certificate.
+    pub fn cell_part(&self, x: RegAddr) -> &'a [u8]
+        ensures { result.now ≡ cell_part self.now.bytes.now x.0 }
+    {
+        part_at(
+            self.bytes,
+            CELLS_AT + CELL_LENGTH * usize::from(x.0),
+            CELL_LENGTH,
+        )
+    }
+
+    // The row of a routine, as that part of the certificate; past the last an empty part.
+    pub fn row_part(&self, n: u8) -> &'a [u8]
+        ensures { result.now ≡ row_part self.now.bytes.now n }
+    {
+        if n < ROUTINES {
+            return part_at(
+                self.bytes,
+                ROWS_AT + ROW_LENGTH * usize::from(n),
+                ROW_LENGTH,
+            );
+        }
+        &self.bytes[0..0]
+    }
+
+    // The row of a register, field by field.
+    #[tactic(auto, unfolding(certificate::specs::Layout::certificate_of, certificate::specs::Layout::certificate_from))]
+    pub fn cell(&self, x: RegAddr) -> CellRow
+        ensures { result ≡ cell_row_of (said_by self.now) x.0 }
+    {
+        let row = self.cell_part(x);
+        CellRow {
+            class: byte_at(row, 0),
+            limit: byte_at(row, 1),
+            table: byte_at(row, 2),
+        }
+    }
+
+    // The row of a routine, field by field.
+    #[tactic(auto, unfolding(certificate::specs::Layout::certificate_of, certificate::specs::Layout::certificate_from))]
+    pub fn routine(&self, n: u8) -> RoutineRow
+        ensures { result ≡ row_of (said_by self.now) n }
+    {
+        let row = self.row_part(n);
+        RoutineRow {
+            start: RomAddr(word_at(row, 0)),
+            side: byte_at(row, 2),
+            need: byte_at(row, 3),
+            bound: word_at(row, 4),
+        }
+    }
+
+    // The stack is floor to top - 1.
+    #[tactic(auto, unfolding(certificate::specs::Layout::certificate_of, certificate::specs::Layout::certificate_from))]
+    pub fn floor(&self) -> u8
+        ensures { result ≡ (said_by self.now).floor }
+    {
+        byte_at(self.bytes, FLOOR_AT)
+    }
+
+    #[tactic(auto, unfolding(certificate::specs::Layout::certificate_of, certificate::specs::Layout::certificate_from))]
+    pub fn top(&self) -> u8
+        ensures { result ≡ (said_by self.now).top }
+    {
+        byte_at(self.bytes, TOP_AT)
+    }
+
+    // The cycles of an interrupt entry.
+    #[tactic(auto, unfolding(certificate::specs::Layout::certificate_of, certificate::specs::Layout::certificate_from))]
+    pub fn entry_cost(&self) -> u8
+        ensures { result ≡ (said_by self.now).entry_cost }
+    {
+        byte_at(self.bytes, ENTRY_COST_AT)
+    }
 }

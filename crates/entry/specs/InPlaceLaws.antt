@@ -2,11 +2,10 @@
 -- Assumes nothing.
 use Rattle.std.specs.Prelude.{◌≡◌, ℕ, Bool, true, false, List, ◌==◌, refl}
 use Rattle.base.specs.Choice.{pick}
-use Rattle.semantics.specs.declared.Next.{Next}
+use Rattle.semantics.specs.Left.{Next}
 use Rattle.semantics.specs.Step.{refused_act, finish_of}
-use Rattle.entry.specs.InPlace.{state_with, finished, ended, acted, rebuilt}
+use Rattle.entry.specs.InPlace.{Ended, state_with, finished, ended, acted, rebuilt}
 use Rattle.entry.specs.declared.Core.{Core}
-use Rattle.entry.specs.declared.Ended.{Ended}
 
 -- the act that ends in after where b holds, and else is refused
 ends_by : (b : Bool) (saved regs : List ℕ) (s : Core) (after : Ended) (stop : ℕ) → (stop == 0) ≡ b → (after.stop == 0) ≡ true

@@ -7,6 +7,8 @@ use Rattle.hex_text.specs.declared.Stream.{Stream}
 use Rattle.hex_text.specs.Text.{first_length, text_answer, text_buffer}
 use Rattle.hex_text.specs.Stream.{started, feed_stream, feed_buffer, finish_answer, Leaves}
 use Rattle.judge.specs.Judgement.{printed_answer, printed_buffer}
+use Rattle.files.specs.declared.Reading.{Reading}
+use Rattle.files.specs.declared.Reading.TheVariants.{GoesOn, Ended, Failed, Refused}
 
 -- whether a character ends a line, as a number of line ends
 abbrev pub line_end : ℕ → ℕ
@@ -27,6 +29,13 @@ pub record Fed (s next : Stream) (n m : ℕ) (before after : List ℕ) : Type 0 
   pub stream : next ≡ feed_stream (length before) s text
   pub buffer : after ≡ feed_buffer s text before
   pub lines : m ≡ counted n (line_ends text)
+
+-- how the reading stands, as a number
+abbrev pub reading_number : Reading → ℕ
+reading_number GoesOn = 0
+reading_number Ended = 1
+reading_number Failed = 2
+reading_number Refused = 3
 
 -- reading stops before the end (3) exactly behind a refused line
 pub record Settled (s : Stream) (state : ℕ) : Type 0 where

@@ -2,6 +2,7 @@
 -- Assumes nothing.
 use Rattle.std.specs.Prelude.{ℕ, zero, suc, ◌+◌, ◌-◌, ◌≤◌, ◌<◌, ◌≡◌, refl, List, [], ◌∷◌, ◌++◌, eqb, ltb, length, get_or, take, drop, Bool, true, false}
 use Rattle.std.proofs.Common.{sym, ap, ◌∙◌, append-nil, not-suc-le-zero, arith, length-drop, drop-cons, get_or-drop, length-take-le, eqb-true}
+use Rattle.std.proofs.lemmas.List.{get_or-take}
 use Rattle.base.specs.Choice.{pick}
 use Rattle.base.specs.ChoiceLaws.{pick_has}
 use Rattle.base.specs.Outcome.{Outcome}
@@ -86,6 +87,39 @@ fed_line {n = n} t at e h q p b =
     let last : at + (e - at - 1) ≡ e - 1 = omega arith in
     let ends = first_ends (drop at t) (omega arith) in
     record { text = take (e - at) (drop at t); stream = p; buffer = b; lines = rw (rw (k, get_or-drop at t (e - at - 1) 0, last) at ends) }
+
+first_some : (t : List ℕ) → 0 < length t → 0 < first_length t
+first_some [] h = absurd (not-suc-le-zero h)
+first_some (c ∷ t) h = first_positive c t
+
+-- the same of the first line of a text, on its own
+module _ (t line : List ℕ) (h : 0 < length t) (e : line ≡ take (first_length t) t) where
+  line_length : length line ≡ first_length t
+  line_length = rw e (length-take-le (first_length t) t (first_within t))
+
+  line_last : line_end (get_or line (length line - 1) 0) ≡ line_ends line
+  line_last =
+      let p : first_length t - 1 < first_length t = omega (arith, first_some t h) in
+      rw (line_length, e, get_or-take (first_length t) t (first_length t - 1) 0 p) (sym (first_ends t h))
+
+  pub fed_first : {s next : Stream} {n : ℕ} {m after : List ℕ} → next ≡ feed_stream (length m) s line → after ≡ feed_buffer s line m
+      → Fed s next n (counted n (line_end (get_or line (length line - 1) 0))) m after
+  fed_first p b = record { text = line; stream = p; buffer = b; lines = rw line_last }
+
+  pub turned_first : {s b next : Stream} {n k : ℕ} {m m₁ after : List ℕ} → Fed s b n k m m₁ → b.number ≡ 0
+      → next ≡ feed_stream (length m₁) b line → after ≡ feed_buffer b line m₁ → 1 ≤ next.number → Turned s next n k 3 m after
+  turned_first {b = b} {m₁ = m₁} f z p w r = record {
+    between = b;
+    middle = m₁;
+    fed = f;
+    right = z;
+    line = line;
+    single = rw e (first_single t) ∙ sym line_length;
+    none = λ x. absurd (x refl);
+    stream = p;
+    buffer = w;
+    settled = record { stops = λ _. r; goes = λ x. absurd (x refl) };
+  }
 
 -- the buffer keeps its length
 fed_length : {s next : Stream} {n k : ℕ} {m m₁ : List ℕ} → Fed s next n k m m₁ → length m₁ ≡ length m

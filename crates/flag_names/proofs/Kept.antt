@@ -39,7 +39,7 @@ use Rattle.semantics.specs.Opened.{actions_opened}
 use Rattle.semantics.specs.declared.Mode.{Mode}
 use Rattle.semantics.specs.declared.Mode.TheVariants.{Running, Idle, Stopped}
 use Rattle.semantics.specs.declared.State.{State}
-use Rattle.semantics.specs.declared.Stepped.{Stepped}
+use Rattle.semantics.specs.Left.{Stepped}
 use Rattle.semantics.specs.Setup.{Setup}
 use Rattle.semantics.specs.Step.{Acted, requested, entry_due, behind, finish_of, after_decode, instruction_act, waiting_act, mode_act, act_after_requests, acted_of, settled}
 use Rattle.semantics.specs.Step.{valid_machine, step_of}

@@ -2,46 +2,40 @@
 #![tactic(auto)]
 
 use decode::decode;
-use isa::{Decoded, Flag, FlagSet};
+use isa::{DecodeError, Flag, FlagSet, NO_FLAGS};
 use std::io;
 use std::io::Read;
-use std::rt::Files;
-use test_support::{Case, Counts, hex_byte, print, put, read_line, store};
+use test_support::{Case, Counts, hex_byte, put, read_line};
 
 // A line without its end, zeros behind it; `undefined` makes the longest.
 type Line = [u8; 16];
 
-// A letter where a flag is named; where the next one goes.
-fn letter(line: &mut Line, at: u8, names: FlagSet, flag: Flag, c: u8) -> u8 {
-    if isa::names(names, flag) {
-        store(line, at as usize, c);
-        return std::num::wrapping_add_u8(at, 1);
-    }
-    at
-}
-
+// A letter for each flag that is named, or a dash.
 fn put_names(line: &mut Line, names: FlagSet) {
-    if names.0 == 0 {
+    let letters = [
+        (Flag::Carry, b'C'),
+        (Flag::Zero, b'Z'),
+        (Flag::Sign, b'S'),
+        (Flag::Overflow, b'V'),
+    ];
+    if names == NO_FLAGS {
         put(line, 3, b"-");
         return;
     }
-    let z = letter(line, 3, names, Flag::Carry, b'C');
-    let s = letter(line, z, names, Flag::Zero, b'Z');
-    let v = letter(line, s, names, Flag::Sign, b'S');
-    letter(line, v, names, Flag::Overflow, b'V');
+    let named = letters.iter().filter(|(flag, _)| isa::names(names, *flag));
+    for (slot, (_, letter)) in line[3..].iter_mut().zip(named) {
+        *slot = *letter;
+    }
 }
 
 // The line of the first byte that two digits give.
 fn line_of(high: u8, low: u8) -> Line {
     let mut line = [0u8; 16];
-    store(&mut line, 0, high);
-    store(&mut line, 1, low);
-    store(&mut line, 2, b' ');
-    let bytes = [hex_byte(high, low), 0x20, 0x20, 0x20];
-    match decode(&bytes, 0) {
-        Decoded::Found(_, _, names) => put_names(&mut line, names),
-        Decoded::Undefined => put(&mut line, 3, b"undefined"),
-        _ => put(&mut line, 3, b"refused"),
+    put(&mut line, 0, &[high, low, b' ']);
+    match decode(&[hex_byte(high, low), 0x20, 0x20, 0x20], 0) {
+        Ok(decoded) => put_names(&mut line, decoded.names),
+        Err(DecodeError::Undefined) => put(&mut line, 3, b"undefined"),
+        Err(_) => put(&mut line, 3, b"refused"),
     }
     line
 }
@@ -50,34 +44,29 @@ fn compare(rt: &impl Print, line: &Line, named: &Line, counts: Counts) -> io::Re
     if line == named {
         return Ok(Case::Same);
     }
-    if test_support::tells(rt, counts)? {
-        print(rt, b" ")?;
-        print(rt, line)?;
-        print(rt, b": ")?;
-        print(rt, named)?;
-        print(rt, b"\n")?;
+    if counts.tells(rt)? {
+        print!(rt; " ")?;
+        rt.write_all(line)?;
+        print!(rt; ": ")?;
+        rt.write_all(named)?;
+        println!(rt; "")?;
     }
     Ok(Case::Differs)
 }
 
-fn run_case(rt: &impl Print, file: &mut impl Read, counts: Counts) -> io::Result<Case> {
+fn run_case(rt: &impl Print, file: &mut impl Read, counts: Counts) -> io::Result<Option<Case>> {
     let mut line = [0u8; 16];
     if read_line(file, &mut line) == 0 {
-        return Ok(Case::End);
+        return Ok(None);
     }
     let named = line_of(line[0], line[1]);
-    compare(rt, &line, &named, counts)
-}
-
-fn run_cases(rt: &(impl Files + Print + Eprint)) -> io::Result<()> {
-    let mut file = test_support::open(rt, b"flags.txt")?;
-    let mut counts = test_support::start();
-    while counts.left > 0 {
-        counts = test_support::counted(counts, run_case(rt, &mut file, counts)?);
-    }
-    test_support::finish(rt, file, counts)
+    Ok(Some(compare(rt, &line, &named, counts)?))
 }
 
 fn main(rt: HostRuntime) -> io::Result<()> {
-    run_cases(&rt)
+    test_support::run_cases(
+        &rt,
+        b"flags.txt",
+        |file, counts| run_case(&rt, file, counts),
+    )
 }

@@ -4,48 +4,28 @@
 use base::{IMAGE_2K, IMAGE_4K, Profile};
 use hex_write::{TEXT_LENGTH_2K, TEXT_LENGTH_4K};
 use std::io;
-use test_support::{print, print_number};
 
-fn example(rt: &impl Print, text: &[u8]) -> io::Result<()> {
-    hex_cases::example(rt, Profile::Rom2K, text)
-}
-
-fn line_example(rt: &impl Print, line: &[u8]) -> io::Result<()> {
-    hex_cases::line_example(rt, Profile::Rom2K, line)
-}
+const EXAMPLES: [&[u8]; 4] = [
+    b":0207FE000102F6\n:00000001FF",
+    b":0207FE000102F6\n:0207FF000102F5",
+    b":0207FF000102F5",
+    b":01080000EE09\n:00000001FF",
+];
 
 // Lines about the end of ROM, 07FFH.
-fn lines_at_end(rt: &impl Print) -> io::Result<()> {
-    line_example(rt, b":0207FE000102F6")?;
-    line_example(rt, b":0207FF000102F5")?; // past the end
-    line_example(rt, b":0207FF000102F6")?; // past the end, sum
-    line_example(rt, b":01080000EE09")?; // behind the end
-    line_example(rt, b":00080000F8")?; // no data, at the end
-    Ok(())
-}
+const LINES_AT_END: [&[u8]; 5] = [
+    b":0207FE000102F6",
+    b":0207FF000102F5", // past the end
+    b":0207FF000102F6", // past the end, sum
+    b":01080000EE09", // behind the end
+    b":00080000F8", // no data, at the end
+];
 
-// Prints the answers for an image of 2047 bytes.
-fn example_of_length(rt: &impl Print) -> io::Result<()> {
-    let mut image = [255u8; IMAGE_2K - 1];
-    let mut pieces = [255u8; IMAGE_2K - 1];
-    let mut out = [0u8; TEXT_LENGTH_2K];
-    hex_cases::example_of_length(rt, Profile::Rom2K, &mut image, &mut pieces, &mut out)
-}
+// An image that is a byte too short.
+const SHORT_IMAGE: usize = IMAGE_2K - 1;
 
-// Shows the last data record.
-fn write_and_read(rt: &impl Print) -> io::Result<()> {
-    let mut image = [0u8; IMAGE_2K];
-    let mut out = [0u8; TEXT_LENGTH_2K];
-    let mut back = [0u8; IMAGE_2K];
-    hex_cases::write_and_read(
-        rt,
-        Profile::Rom2K,
-        &mut image,
-        &mut out,
-        &mut back,
-        TEXT_LENGTH_2K - 56,
-    )
-}
+// Where the last data record begins in the text that is written.
+const LAST_RECORD: usize = TEXT_LENGTH_2K - 56;
 
 // Prints the writer's answer for a part, whether the buffer is as it was, and the lengths.
 fn write_example(
@@ -55,16 +35,17 @@ fn write_example(
     out: &mut [u8],
     kept: &[u8],
 ) -> io::Result<()> {
-    print_number(
-        rt,
-        hex_cases::written_number(hex_write::write_image(profile, image, out)),
-    )?;
-    if &*out == kept {
-        print(rt, b" unchanged, image of ")?;
+    let number = hex_cases::written_number(hex_write::write_image(profile, image, out));
+    let change = if &*out == kept {
+        "unchanged"
     } else {
-        print(rt, b" written, image of ")?;
-    }
-    println!(rt; "{} bytes, buffer of {}", image.len(), out.len())
+        "written"
+    };
+    println!(rt;
+        "{number} {change}, image of {} bytes, buffer of {}",
+        image.len(),
+        out.len()
+    )
 }
 
 // An image of the other part, for either; a buffer that is a byte too short.
@@ -81,13 +62,14 @@ fn refused_images(rt: &impl Print) -> io::Result<()> {
 }
 
 fn main(rt: HostRuntime) -> io::Result<()> {
-    example(&rt, b":0207FE000102F6\n:00000001FF")?;
-    example(&rt, b":0207FE000102F6\n:0207FF000102F5")?;
-    example(&rt, b":0207FF000102F5")?;
-    example(&rt, b":01080000EE09\n:00000001FF")?;
-    lines_at_end(&rt)?;
-    example_of_length(&rt)?;
-    write_and_read(&rt)?;
+    for text in EXAMPLES {
+        hex_cases::example(&rt, Profile::Rom2K, text)?;
+    }
+    for line in LINES_AT_END {
+        hex_cases::line_example(&rt, Profile::Rom2K, line)?;
+    }
+    hex_cases::example_of_length::<SHORT_IMAGE, TEXT_LENGTH_2K>(&rt, Profile::Rom2K)?;
+    hex_cases::write_and_read::<IMAGE_2K, TEXT_LENGTH_2K>(&rt, Profile::Rom2K, LAST_RECORD)?;
     refused_images(&rt)?;
     hex_cases::run_cases(&rt, Profile::Rom2K, b"hex2k.bin")
 }

@@ -1,42 +1,18 @@
 // What the programs over HEX cases share: the readers and the writer on examples and on the cases of a file, for the image of a part.
 #![tactic(auto)]
 
-ghost use Rattle.std.specs.Prelude.{◌<◌, ◌≤◌, length};
+ghost use Rattle.std.specs.Prelude.{◌<◌};
 
-use base::{IMAGE_4K, Profile};
-use hex_line::{Line, Reader};
-use hex_text::Text;
-use hex_write::Written;
+use base::{IMAGE_4K, InvalidArgument, Profile};
+use hex_line::{Fault, Reader};
 use std::io;
 use std::io::Read;
 use std::rt::Files;
-use test_support::{Case, Counts, print, print_number, read_edits};
-
-fn same(a: &[u8; IMAGE_4K], b: &[u8; IMAGE_4K]) -> bool {
-    a == b
-}
-
-fn wide(x: u8) -> u64 {
-    x as u64
-}
+use test_support::{Case, Counts, read_edits};
 
 // The number of an answer, 0 where the text was read to its end.
-fn text_number(answer: Text) -> u8 {
-    match answer {
-        Text::Read => 0,
-        Text::Refused(n) => n,
-    }
-}
-
-// The end of the piece that starts at a position.
-fn piece_end(text: &[u8], at: usize, step: usize) -> usize
-    requires { (at < length text.now) × (0 < step) }
-    ensures { (at < result) × (result ≤ length text.now) }
-{
-    if text.len() - at <= step {
-        return text.len();
-    }
-    at + step
+fn text_number(answer: Result<(), Fault>) -> u8 {
+    answer.err().map_or(0, u8::from)
 }
 
 // Reads a text in pieces of a length.
@@ -44,18 +20,15 @@ fn read_pieces(text: &[u8], step: usize, image: &mut [u8]) -> u8
     requires { 0 < step }
 {
     let mut s = hex_text::start();
-    let mut at: usize = 0;
-    while at < text.len() {
-        let e = piece_end(text, at, step);
-        s = hex_text::feed(s, &text[at..e], image);
-        at = e;
+    for piece in text.chunks(step) {
+        s = hex_text::feed(s, piece, image);
     }
     text_number(hex_text::finish(s, image.len()))
 }
 
 // Reads a text byte by byte.
-pub fn read_by_bytes(text: &[u8], image: &mut [u8]) -> u64 {
-    wide(read_pieces(text, 1, image))
+pub fn read_by_bytes(text: &[u8], image: &mut [u8]) -> u8 {
+    read_pieces(text, 1, image)
 }
 
 // Prints both answers to a text, read whole and byte by byte.
@@ -67,7 +40,7 @@ fn print_numbers(
 ) -> io::Result<()> {
     print!(rt;
         "{} {} ",
-        wide(text_number(hex_text::read_text(text, whole))),
+        text_number(hex_text::read_text(text, whole)),
         read_by_bytes(text, pieces)
     )
 }
@@ -78,21 +51,16 @@ pub fn example(rt: &impl Print, profile: Profile, text: &[u8]) -> io::Result<()>
     let mut pieces = [255u8; IMAGE_4K];
     let n = base::image_length(profile);
     print_numbers(rt, text, &mut whole[..n], &mut pieces[..n])?;
-    print(rt, text)?;
-    print(rt, b"\n")
+    rt.write_all(text)?;
+    println!(rt; "")
 }
 
 // Prints the number of a line's answer, and of a line that is read where the next record may begin.
-fn print_answer(rt: &impl Print, answer: Line) -> io::Result<()> {
+fn print_answer(rt: &impl Print, answer: Result<Reader, Fault>) -> io::Result<()> {
     match answer {
-        Line::Read(reader) => {
-            print!(rt; "0 next {}", reader.next)?;
-        }
-        Line::Refused(fault) => {
-            print_number(rt, wide(hex_line::number(fault)))?;
-        }
+        Ok(reader) => print!(rt; "0 next {}", reader.next),
+        Err(fault) => print!(rt; "{}", u8::from(fault)),
     }
-    Ok(())
 }
 
 // Prints the answer to a line behind a record that ended at 258 (0102H), whether the image is as it was, and the line.
@@ -105,80 +73,84 @@ pub fn line_example(rt: &impl Print, profile: Profile, line: &[u8]) -> io::Resul
         ended: false,
     };
     print_answer(rt, hex_line::read_line(line, &mut image[..n], reader))?;
-    if same(&image, &kept) {
-        print(rt, b" unchanged ")?;
+    let change = if image == kept {
+        "unchanged"
     } else {
-        print(rt, b" written ")?;
-    }
-    print(rt, line)?;
-    print(rt, b"\n")
+        "written"
+    };
+    print!(rt; " {change} ")?;
+    rt.write_all(line)?;
+    println!(rt; "")
 }
 
 // The number of bytes that were written; or the refusal's.
-pub fn written_number(answer: Written) -> u64 {
+pub fn written_number(answer: Result<usize, InvalidArgument>) -> u64 {
     match answer {
-        Written::Bytes(n) => n as u64,
-        Written::WrongLength => 7,
+        Ok(n) => n as u64,
+        Err(refusal) => u64::from(u8::from(refusal)),
     }
 }
 
-// Prints the answers for two images of a length that no part has: the readers' and the writer's.
-pub fn example_of_length(
+// Prints the answers for an image of a length that no part has: the readers' and the writer's.
+pub fn example_of_length<const IMAGE: usize, const TEXT: usize>(
     rt: &impl Print,
     profile: Profile,
-    image: &mut [u8],
-    pieces: &mut [u8],
-    out: &mut [u8],
-) -> io::Result<()> {
-    print_numbers(rt, b":00000001FF", image, pieces)?;
+) -> io::Result<()>
+    requires image { IMAGE < 65536 }
+    requires text { TEXT < 65536 }
+{
+    let mut image = [255u8; IMAGE];
+    let mut pieces = [255u8; IMAGE];
+    let mut out = [0u8; TEXT];
+    print_numbers(rt, b":00000001FF", &mut image, &mut pieces)?;
     println!(rt;
         "{} image of {} bytes",
-        written_number(hex_write::write_image(profile, image, out)),
+        written_number(hex_write::write_image(profile, &image, &mut out)),
         image.len()
     )
 }
 
 // Fills an image with the low byte of 7 times the address and the high byte.
 fn fill(image: &mut [u8]) {
-    for i in 0..image.len() {
-        image[i] = ((i % 256 * 7 + i / 256) % 256) as u8;
+    for (i, byte) in image.iter_mut().enumerate() {
+        *byte = ((i % 256 * 7 + i / 256) % 256) as u8;
     }
 }
 
 // Prints the part of a text from `at` on, of this length.
 fn print_part(rt: &impl Print, text: &[u8], at: usize, length: usize) -> io::Result<()> {
-    if at <= text.len() {
-        if length <= text.len() - at {
-            let end = at + length;
-            print(rt, &text[at..end])?;
-        }
+    match text.get(at..).and_then(|rest| rest.get(..length)) {
+        Some(part) => rt.write_all(part),
+        None => Ok(()),
     }
-    Ok(())
 }
 
 // Writes an image, prints its length, one of its records and the end line, and reads it back.
-pub fn write_and_read(
+pub fn write_and_read<const IMAGE: usize, const TEXT: usize>(
     rt: &impl Print,
     profile: Profile,
-    image: &mut [u8],
-    out: &mut [u8],
-    back: &mut [u8],
     at: usize,
-) -> io::Result<()> {
-    fill(image);
+) -> io::Result<()>
+    requires image { IMAGE < 65536 }
+    requires text { TEXT < 65536 }
+{
+    let mut image = [0u8; IMAGE];
+    let mut out = [0u8; TEXT];
+    let mut back = [0u8; IMAGE];
+    fill(&mut image);
     println!(rt;
         "{} bytes",
-        written_number(hex_write::write_image(profile, image, out))
+        written_number(hex_write::write_image(profile, &image, &mut out))
     )?;
-    print_part(rt, out, at, 44)?;
-    print_part(rt, out, hex_write::text_length(profile) - 12, 12)?;
-    print_number(rt, wide(text_number(hex_text::read_text(out, back))))?;
-    if &*image == &*back {
-        print(rt, b" read back\n")?;
+    print_part(rt, &out, at, 44)?;
+    print_part(rt, &out, hex_write::text_length(profile) - 12, 12)?;
+    let number = text_number(hex_text::read_text(&out, &mut back));
+    let equal = if image == back {
+        "read back"
     } else {
-        print(rt, b" not read back\n")?;
-    }
-    Ok(())
+        "not read back"
+    };
+    println!(rt; "{number} {equal}")
 }
 
 // Whether both readers give a text the number and the image that the case expects.
@@ -191,12 +163,9 @@ fn agrees(profile: Profile, text: &[u8], number: u8, expected: &[u8; IMAGE_4K], 
     let n = base::image_length(profile);
     let piece_number = read_pieces(text, step, &mut pieces[..n]);
     let whole_number = text_number(hex_text::read_text(text, &mut whole[..n]));
-    let numbers = (piece_number == number) & (whole_number == number);
-    let written = same(&pieces, expected);
-    if number == 0 {
-        return numbers & written & same(&whole, expected);
-    }
-    numbers & written & same(&whole, &kept)
+    let numbers = piece_number == number && whole_number == number;
+    let left = if number == 0 { expected } else { &kept };
+    numbers && &pieces == expected && &whole == left
 }
 
 // Reads the rest of a case whose text has this length, and compares; one that is cut off differs. The index says in what pieces the text is read.
@@ -215,28 +184,29 @@ fn compare(
     let mut expected = [255u8; IMAGE_4K];
     let whole = read_edits(file, &mut expected) & (got == length);
     let step = (index % 61 + 1) as usize;
-    agrees(profile, &text[..length], number, &expected, step) & whole
+    whole && agrees(profile, &text[..length], number, &expected, step)
 }
 
+// The next case of the file.
 fn run_case(
     rt: &impl Print,
     profile: Profile,
     file: &mut impl Read,
     counts: Counts,
-) -> io::Result<Case> {
+) -> io::Result<Option<Case>> {
     let mut two = [0u8; 2];
     if test_support::read_full(file, &mut two) == 0 {
-        return Ok(Case::End);
+        return Ok(None);
     }
     let mut text = [0u8; 65536];
-    let length = test_support::word(two[0], two[1]) as usize;
+    let length = usize::from(base::word(two[0], two[1]));
     if compare(profile, file, &mut text, length, counts.compared) {
-        return Ok(Case::Same);
+        return Ok(Some(Case::Same));
     }
-    if test_support::tells(rt, counts)? {
-        print(rt, b" differs\n")?;
+    if counts.tells(rt)? {
+        println!(rt; " differs")?;
     }
-    Ok(Case::Differs)
+    Ok(Some(Case::Differs))
 }
 
 // Runs the cases of a file, and prints what differs.
@@ -245,10 +215,5 @@ pub fn run_cases(
     profile: Profile,
     name: &[u8],
 ) -> io::Result<()> {
-    let mut file = test_support::open(rt, name)?;
-    let mut counts = test_support::start();
-    while counts.left > 0 {
-        counts = test_support::counted(counts, run_case(rt, profile, &mut file, counts)?);
-    }
-    test_support::finish(rt, file, counts)
+    test_support::run_cases(rt, name, |file, counts| run_case(rt, profile, file, counts))
 }

@@ -1,15 +1,16 @@
 // What was found in a refused line of Intel HEX, and what should stand there.
 #![tactic(auto)]
 
-ghost use Rattle.std.specs.Prelude.{◌≡◌, ◌+◌, ◌-◌, ◌<◌, ◌≤◌, length, drop};
-ghost use Rattle.hex_line.specs.Record.{body_of};
-ghost use Rattle.hex_fault.specs.Finding.{digits_from, called_for, wrong_count, malformed, last_pair, bad_sum, field_finding, line_finding, refusal_finding, finding_of};
+ghost use Rattle.std.specs.Prelude.{◌≡◌, ◌+◌, ◌<◌, ◌≤◌, length, drop};
+ghost use Rattle.hex_line.specs.Line.{fault_number};
+ghost use Rattle.hex_fault.specs.Finding.{digits_from, called_for, wrong_count, malformed, last_pair, bad_sum, refusal_finding, finding_of};
 
 use base::byte_at;
-use hex_line::{Fields, Line, Parsed, Reader};
+use hex_line::{Fault, LONGEST_BODY, Reader};
+use std::fmt;
 
-// Right: the line is read. Two numbers are what was found and what should stand there.
-#[derive(Clone, Copy)]
+// Right: the line is read; no `Option`, since `finding_number` has it as 0. Two numbers are what was found and what should stand there.
+#[derive(Clone, Copy, Debug, PartialEq, Eq)]
 pub enum Finding {
     Right,
     OtherBuffer,
@@ -35,28 +36,99 @@ pub enum Finding {
     End(usize, usize),
 }
 
+// A number of things, as `1 line` and `2 lines`.
+#[derive(Clone, Copy, Debug, PartialEq, Eq)]
+pub struct Count<'a>(pub u64, pub &'a str);
+
+impl<'a> fmt::Display for Count<'a> {
+    fn fmt<W: fmt::Write>(&self, f: &mut fmt::Formatter<W>) -> fmt::Result {
+        let ending = if self.0 == 1 { "" } else { "s" };
+        write!(f, "{} {}{ending}", self.0, self.1)
+    }
+}
+
+// A character that can be seen in quotes, another by its code.
+#[derive(Clone, Copy)]
+struct Character(u8);
+
+impl fmt::Display for Character {
+    fn fmt<W: fmt::Write>(&self, f: &mut fmt::Formatter<W>) -> fmt::Result {
+        if self.0.is_ascii_graphic() {
+            write!(f, "'{}'", char::from(self.0))
+        } else {
+            write!(f, "{:02X}H", self.0)
+        }
+    }
+}
+
+// How many characters a line has. More than any valid line has are not counted on.
+#[derive(Clone, Copy)]
+struct Characters(usize);
+
+impl fmt::Display for Characters {
+    fn fmt<W: fmt::Write>(&self, f: &mut fmt::Formatter<W>) -> fmt::Result {
+        if self.0 > LONGEST_BODY {
+            f.write_str("more than ")?;
+        }
+        write!(f, "{}", Count(self.0.min(LONGEST_BODY) as u64, "character"))
+    }
+}
+
+// What was found, and what should stand there: bytes have two digits, addresses four or five.
+impl fmt::Display for Finding {
+    fn fmt<W: fmt::Write>(&self, f: &mut fmt::Formatter<W>) -> fmt::Result {
+        match *self {
+            Finding::Right | Finding::OtherBuffer => Ok(()),
+            Finding::BehindEnd => f.write_str("line behind the end line"),
+            Finding::Empty => f.write_str("empty line"),
+            Finding::NoColon(c) => write!(f, "character 1 is {}, should be ':'", Character(c)),
+            Finding::NoDigit(number, c) => write!(
+                f,
+                "character {number} is {}, should be 0 to 9 or A to F",
+                Character(c)
+            ),
+            Finding::Cut(found) => write!(f, "{}, should be 11 or more", Characters(found)),
+            Finding::Characters(found, right) => {
+                write!(f, "{}, should be {right}", Characters(found))
+            }
+            Finding::NoEndLine => f.write_str("type 01, but not the end line :00000001FF"),
+            Finding::Sum(found, right) => {
+                write!(f, "sum {:02X}, should be {right:02X}", found % 256)
+            }
+            Finding::Type(found) => write!(f, "type {:02X}, should be 00 or 01", found % 256),
+            Finding::Address(found, right) => {
+                write!(f, "address {found:04X}, should be {right:04X} or more")
+            }
+            Finding::End(found, right) => {
+                write!(f, "ends at {found:04X}, should be {right:04X} at most")
+            }
+        }
+    }
+}
+
 // Where the digits behind the colon end: the position of the first character that is none, or the length.
 fn digits_end(body: &[u8]) -> usize
     requires { 0 < length body.now }
     ensures { (result ≡ 1 + digits_from (drop 1 body.now)) × (result ≤ length body.now) }
 {
-    let mut i: usize = 1;
-    while i < body.len() {
-        if hex_line::digit(body[i]) > 15 {
+    // By index: the position is the answer. With `is_none` in place of `let .. else` it is not proved (tried).
+    for i in 1..body.len() {
+        let Some(_) = hex_line::digit(body[i]) else {
             return i;
-        }
-        i += 1;
+        };
     }
-    i
+    body.len()
 }
 
-// How many characters the length byte calls for.
+// How many characters the length byte calls for. One that is no pair counts as 256, as in S`last_pair`: `Finding::Sum` tells it.
+#[tactic(auto, unfolding(hex_line::specs::Record::count_by, hex_line::specs::Record::pair_by))]
 fn called_for(body: &[u8]) -> usize
     ensures { result ≡ called_for body.now }
 {
-    let high = hex_line::digit(byte_at(body, 1));
-    let low = hex_line::digit(byte_at(body, 2));
-    hex_line::join(high, low) as usize * 2 + 11
+    match hex_line::pair(byte_at(body, 1), byte_at(body, 2)) {
+        Some(count) => usize::from(count) * 2 + 11,
+        None => 256 * 2 + 11,
+    }
 }
 
 // Not as many characters as the length byte calls for.
@@ -71,44 +143,33 @@ fn count_finding(body: &[u8]) -> Finding
 }
 
 // A line that is no colon with the pairs that its length byte calls for.
+#[tactic(auto, unfolding(crate::specs::Finding::malformed))]
 fn malformed_finding(body: &[u8]) -> Finding
     ensures { result ≡ malformed body.now }
 {
-    let n = body.len();
-    if n == 0 {
+    if body.is_empty() {
         return Finding::Empty;
     }
-    let first = body[0];
-    if first != 58 {
-        return Finding::NoColon(first);
+    if body[0] != b':' {
+        return Finding::NoColon(body[0]);
     }
     let end = digits_end(body);
-    if end < n {
-        if end < called_for(body) {
-            return Finding::NoDigit(end + 1, body[end]);
-        }
-        return count_finding(body);
+    if end < body.len() && end < called_for(body) {
+        return Finding::NoDigit(end + 1, body[end]);
     }
     count_finding(body)
 }
 
-fn less_two(n: usize) -> usize
-    ensures { (result ≡ n - 2) × (result ≤ n) }
-{
-    if n < 2 {
-        return 0;
-    }
-    n - 2
-}
-
-// The pair that a line ends with: the sum byte.
+// The pair that a line ends with, the sum byte. One that is no pair counts as 256.
+#[tactic(auto, unfolding(crate::specs::Finding::last_pair, hex_line::specs::Record::pair_by))]
 fn last_pair(body: &[u8]) -> u16
     ensures { (result ≡ last_pair body.now) × (result < 257) }
 {
-    let k = less_two(body.len());
-    let high = hex_line::digit(byte_at(body, k));
-    let low = hex_line::digit(byte_at(body, k + 1));
-    hex_line::join(high, low)
+    let at = body.len().saturating_sub(2);
+    match hex_line::pair(byte_at(body, at), byte_at(body, at + 1)) {
+        Some(sum) => u16::from(sum),
+        None => 256,
+    }
 }
 
 // The sum byte, and the one that makes the sum 0 modulo 256.
@@ -120,58 +181,32 @@ fn sum_finding(body: &[u8], sum: u16) -> Finding
     Finding::Sum(found, (found + 256 - sum) % 256)
 }
 
-// What was found in a well-formed line, by the number of its refusal.
-fn field_finding(number: u8, f: Fields, body: &[u8], length: usize, reader: Reader) -> Finding
-    requires { (f.count < 257) × (f.address < 66000) × (f.sum < 257) }
-    ensures { result ≡ field_finding body.now length reader number f }
+// What was found in a line without its end, by its refusal. 7 and 6 are no fault of the line itself.
+fn refusal_finding(fault: Fault, body: &[u8], length: usize, reader: Reader) -> Finding
+    ensures { result ≡ refusal_finding body.now length reader (fault_number fault) }
 {
-    if number == 2 {
-        return sum_finding(body, f.sum);
+    match (fault, hex_line::parse(body)) {
+        (Fault::WrongLength, _) => Finding::OtherBuffer,
+        (Fault::AfterEnd, _) => Finding::BehindEnd,
+        (_, None) => malformed_finding(body),
+        (Fault::Malformed, Some(_)) => Finding::NoEndLine,
+        (Fault::BadSum, Some(f)) => sum_finding(body, f.sum),
+        (Fault::BadType, Some(f)) => Finding::Type(f.kind),
+        (Fault::Overlap, Some(f)) => Finding::Address(f.address, reader.next),
+        (Fault::PastEnd, Some(f)) => Finding::End(f.address + f.count, length),
     }
-    if number == 3 {
-        return Finding::Type(f.kind);
-    }
-    if number == 4 {
-        return Finding::Address(f.address, reader.next);
-    }
-    if number == 5 {
-        return Finding::End(f.address + f.count, length);
-    }
-    Finding::NoEndLine
-}
-
-// What was found in a line that is refused for itself.
-fn line_finding(number: u8, body: &[u8], length: usize, reader: Reader) -> Finding
-    ensures { result ≡ line_finding body.now length reader number }
-{
-    match hex_line::parse(body) {
-        Parsed::Formed(f) => field_finding(number, f, body, length, reader),
-        Parsed::Malformed => malformed_finding(body),
-    }
-}
-
-// 7 and 6 are no fault of the line itself.
-fn refusal_finding(number: u8, body: &[u8], length: usize, reader: Reader) -> Finding
-    ensures { result ≡ refusal_finding body.now length reader number }
-{
-    if number == 7 {
-        return Finding::OtherBuffer;
-    }
-    if number == 6 {
-        return Finding::BehindEnd;
-    }
-    line_finding(number, body, length, reader)
 }
 
 // What was found in a line, with or without its LF or CR LF, for a buffer of this length.
+#[tactic(auto, unfolding(crate::specs::Finding::finding_of))]
 pub fn find(line: &[u8], length: usize, reader: Reader) -> Finding
     ensures { result ≡ finding_of reader length line.now }
 {
     match hex_line::check_line(line, length, reader) {
-        Line::Read(_) => Finding::Right,
-        Line::Refused(fault) => {
-            let n = hex_line::body_length(line);
-            refusal_finding(hex_line::number(fault), &line[..n], length, reader)
+        Ok(_) => Finding::Right,
+        Err(fault) => {
+            let body = &line[..hex_line::body_length(line)];
+            refusal_finding(fault, body, length, reader)
         }
     }
 }

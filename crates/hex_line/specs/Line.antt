@@ -1,17 +1,16 @@
 -- What reading one line answers, by 01's numbers, and what it leaves in the lent buffer.
 -- Assumes nothing.
-use Rattle.std.specs.Prelude.{ℕ, ◌+◌, Bool, true, false, List, ◌++◌, length, take, drop, eqb, leb}
+use Rattle.std.specs.Prelude.{ℕ, ◌+◌, ◌≤◌, ◌≡◌, Bool, true, false, Result, Ok, Err, List, ◌++◌, length, take, drop, eqb, leb}
 use Rattle.base.specs.Choice.{pick}
-use Rattle.base.specs.Outcome.{Outcome, and_then, on_outcome}
+use Rattle.base.specs.Outcome.{Outcome, and_then, on_outcome, outcome_by}
 use Rattle.base.specs.Outcome.Outcome.{value, refused}
 use Rattle.base.specs.Lengths.{is_certificate_length}
 use Rattle.base.specs.Parts.{is_image_length}
+use Rattle.base.specs.declared.InvalidArgument.{InvalidArgument}
 use Rattle.hex_line.specs.Record.{digit_of, count_by, address_by, data_by, parse_by, body_of}
 use Rattle.hex_line.specs.declared.Reader.{Reader}
 use Rattle.hex_line.specs.declared.Fields.{Fields}
 use Rattle.hex_line.specs.declared.Fault.{Fault}
-use Rattle.hex_line.specs.declared.Line.{Line}
-use Rattle.hex_line.specs.declared.Checked.{Checked}
 
 -- whether a lent buffer is as long as an image or a certificate
 abbrev pub buffer_length : ℕ → Bool
@@ -31,13 +30,17 @@ fault_number Fault.PastEnd = 5
 fault_number Fault.AfterEnd = 6
 fault_number Fault.WrongLength = 7
 
-abbrev pub line_outcome : Line → Outcome Reader
-line_outcome (Line.Read next) = value next
-line_outcome (Line.Refused fault) = refused (fault_number fault)
+-- the refusal with a number of 01's table, if there is one
+abbrev pub HasNumber : ℕ → Result Fault InvalidArgument → Type 0
+HasNumber n (Ok fault) = fault_number fault ≡ n
+HasNumber n (Err e) = (1 ≤ n) × (n ≤ 7) → ⊥
 
-abbrev pub checked_outcome : Checked → Outcome (Unit {0})
-checked_outcome Checked.Right = value tt
-checked_outcome (Checked.Refused fault) = refused (fault_number fault)
+-- what reading or checking a line tells, by its fault's number
+abbrev pub line_outcome : Result Reader Fault → Outcome Reader
+line_outcome = outcome_by fault_number
+
+abbrev pub checked_outcome : Result (Unit {0}) Fault → Outcome (Unit {0})
+checked_outcome = outcome_by fault_number
 
 -- type 01: no data, address 0 and sum 0 make it :00000001FF, else 1
 abbrev pub check_end : Fields → Outcome (Unit {0})

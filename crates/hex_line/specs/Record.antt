@@ -2,12 +2,11 @@
 -- A digit, a pair or a sum that is none is the first number above its values: 16, 256, 256.
 -- What is read of a line is defined over a digit test, so that the former reader, which took small letters too, is said once with this one.
 -- Assumes nothing.
-use Rattle.std.specs.Prelude.{ℕ, zero, suc, ◌+◌, ◌-◌, ◌*◌, ◌%◌, ◌<◌, List, [], ◌∷◌, ◌++◌, length, get_or, take, eqb, ltb}
+use Rattle.std.specs.Prelude.{ℕ, zero, suc, ◌+◌, ◌-◌, ◌*◌, ◌%◌, ◌<◌, Option, Some, None, List, [], ◌∷◌, ◌++◌, length, get_or, take, eqb, ltb}
 use Rattle.base.specs.Choice.{pick}
 use Rattle.base.specs.Outcome.{Outcome}
 use Rattle.base.specs.Outcome.Outcome.{value, refused}
 use Rattle.hex_line.specs.declared.Fields.{Fields}
-use Rattle.hex_line.specs.declared.Parsed.{Parsed}
 
 -- the reader's digit test: the value of 0 to 9 or A to F; 16 of any other character, a to f among them
 abbrev pub digit_of : ℕ → ℕ
@@ -19,6 +18,15 @@ digit_of c =
 -- the value of two digits; 256 where one is none
 abbrev pub joined : ℕ → ℕ → ℕ
 joined high low = pick (ltb high 16) (pick (ltb low 16) (high * 16 + low) 256) 256
+
+-- a digit, a pair or a sum that the code answers, as these numbers
+abbrev pub digit_value : Option ℕ → ℕ
+digit_value (Some digit) = digit
+digit_value None = 16
+
+abbrev pub pair_value : Option ℕ → ℕ
+pair_value (Some pair) = pair
+pair_value None = 256
 
 -- a sum modulo 256; 256 where a pair is none
 abbrev pub added : ℕ → ℕ → ℕ
@@ -81,14 +89,15 @@ data_of = data_by digit_of
 abbrev pub parse_body : List ℕ → Outcome Fields
 parse_body = parse_by digit_of
 
-abbrev pub parsed_outcome : Parsed → Outcome Fields
-parsed_outcome (Parsed.Formed f) = value f
-parsed_outcome Parsed.Malformed = refused 1
+-- no fields are 1
+abbrev pub parsed_outcome : Option Fields → Outcome Fields
+parsed_outcome (Some f) = value f
+parsed_outcome None = refused 1
 
 -- the fields of a formed line are small enough to add
-abbrev pub Small : Parsed → Type 0
-Small (Parsed.Formed f) = (f.count < 257) × (f.address < 66000) × (f.sum < 257)
-Small Parsed.Malformed = Unit {0}
+abbrev pub Small : Option Fields → Type 0
+Small (Some f) = (f.count < 257) × (f.address < 66000) × (f.sum < 257)
+Small None = Unit {0}
 
 -- the length of a line without its LF or CR LF
 unfoldable pub body_length : List ℕ → ℕ

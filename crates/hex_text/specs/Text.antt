@@ -1,12 +1,12 @@
 -- A whole text: its lines, what reading them in turn answers, and what it leaves in the lent buffer.
 -- Assumes nothing.
-use Rattle.std.specs.Prelude.{ℕ, suc, List, [], ◌∷◌, length, eqb}
+use Rattle.std.specs.Prelude.{ℕ, suc, Result, List, [], ◌∷◌, length, eqb}
 use Rattle.base.specs.Choice.{pick}
-use Rattle.base.specs.Outcome.{Outcome, and_then, on_outcome}
+use Rattle.base.specs.Outcome.{Outcome, and_then, on_outcome, outcome_by}
 use Rattle.base.specs.Outcome.Outcome.{value, refused}
-use Rattle.hex_line.specs.Line.{buffer_length, begun, read_line, line_buffer}
+use Rattle.hex_line.specs.Line.{buffer_length, begun, fault_number, read_line, line_buffer}
+use Rattle.hex_line.specs.declared.Fault.{Fault}
 use Rattle.hex_line.specs.declared.Reader.{Reader}
-use Rattle.hex_text.specs.declared.Text.{Text}
 
 -- a character in front of the first line
 abbrev pub onto : ℕ → List (List ℕ) → List (List ℕ)
@@ -32,9 +32,9 @@ unfoldable pub first_length : List ℕ → ℕ
 first_length [] = 0
 first_length (c ∷ t) = pick (eqb c 10) 1 (suc (first_length t))
 
-abbrev pub text_outcome : Text → Outcome (Unit {0})
-text_outcome Text.Read = value tt
-text_outcome (Text.Refused number) = refused number
+-- what reading a text tells, by its fault's number
+abbrev pub text_outcome : Result (Unit {0}) Fault → Outcome (Unit {0})
+text_outcome = outcome_by fault_number
 
 -- behind the last line: 6 where no end line was read
 abbrev pub end_answer : Reader → Outcome (Unit {0})

@@ -1,9 +1,34 @@
 -- Laws on the lines of a text: its first line, and what stands behind it.
 -- Assumes nothing.
-use Rattle.std.specs.Prelude.{ℕ, suc, ◌+◌, ◌-◌, ◌≤◌, ◌<◌, ◌≡◌, refl, Bool, true, false, List, [], ◌∷◌, ◌++◌, eqb, length, get_or, take, drop}
+use Rattle.std.specs.Prelude.{ℕ, suc, ◌+◌, ◌-◌, ◌≤◌, ◌<◌, ◌≡◌, ◌==◌, refl, Some, None, position, cond, nat_lt, not, Bool, true, false, List, [], ◌∷◌, ◌++◌, eqb, length, get_or, take, drop}
 use Rattle.std.proofs.Common.{ap, ◌∙◌, add-one, not-suc-le-zero, arith, drop_of_length-le, length-drop, drop-cons, drop-drop, ne_eqb}
+use Rattle.std.proofs.lemmas.Bool.Decides.{nat_tests}
+use Rattle.std.specs.List.{position_or_len}
 use Rattle.base.specs.Choice.{pick}
 use Rattle.hex_text.specs.Text.{onto, lines, first_length}
+
+-- the first line ends behind the first LF; a text without LF is one line
+one_more : (f p n : ℕ) → f ≡ cond (nat_lt p n) (p + 1) n → suc f ≡ cond (nat_lt (1 + p) (suc n)) (1 + p + 1) (suc n)
+one_more f p n e = grind (arith, nat_tests)
+
+first_lf : (s : List ℕ) → first_length s ≡ cond (nat_lt (position_or_len (λ c. c == 10) s) (length s)) (position_or_len (λ c. c == 10) s + 1) (length s)
+unfolding first_length
+first_lf [] = refl
+first_lf (c ∷ t) = by_test (c == 10) (one_more _ _ _ (first_lf t))
+  where
+    by_test : (b : Bool)
+        → suc (first_length t) ≡ cond (nat_lt (1 + position_or_len (λ c. c == 10) t) (suc (length t))) (1 + position_or_len (λ c. c == 10) t + 1) (suc (length t))
+        → pick b 1 (suc (first_length t))
+        ≡ cond (nat_lt (cond (not b) (1 + position_or_len (λ c. c == 10) t) 0) (suc (length t)))
+        (cond (not b) (1 + position_or_len (λ c. c == 10) t) 0 + 1) (suc (length t))
+    by_test true ih = grind (arith, nat_tests)
+    by_test false ih = ih
+
+pub first_found : (s : List ℕ) (n : ℕ) → position (λ c. c == 10) s ≡ Some n → first_length s ≡ n + 1
+first_found s n e = first_lf s ∙ grind (arith, e)
+
+pub first_none : (s : List ℕ) → position (λ c. c == 10) s ≡ None → first_length s ≡ length s
+first_none s e = first_lf s ∙ grind (arith, e)
 
 pub at_lf : (s : List ℕ) (e : ℕ) → e < length s → get_or s e 0 ≡ 10 → first_length (drop e s) ≡ 1
 unfolding first_length
@@ -65,6 +90,19 @@ first_line (c ∷ a) t p = rw (ne_eqb _ _ p.0, first_line a t p.1)
 pub no_line : lines [] ≡ []
 unfolding lines
 no_line = refl
+
+pub no_lines : (s : List ℕ) → length s ≡ 0 → lines s ≡ []
+unfolding lines
+no_lines [] h = refl
+no_lines (c ∷ t) h = absurd (omega (arith, h))
+
+-- where a line comes first, it is the first line of the text
+pub first_of_lines : (s line t : List ℕ) → lines s ≡ line ∷ lines t → (0 < length s) × (line ≡ take (first_length s) s)
+first_of_lines [] line t e = let none = no_line in cc
+first_of_lines (c ∷ s) line t e =
+    let n : 0 < length (c ∷ s) = omega arith in
+    let w = first_line_of (c ∷ s) n in
+    (n, cc)
 
 -- a text without LF is one line
 pub last_line : (c : ℕ) (a : List ℕ) → Plain (c ∷ a) → lines ((c ∷ a) ++ []) ≡ (c ∷ a) ∷ []

@@ -1,118 +1,112 @@
 // Reads Intel HEX: a whole lent text, or a file that is fed in pieces.
 #![tactic(auto)]
 
-ghost use Rattle.std.specs.Prelude.{◌≡◌, ◌+◌, ◌<◌, ◌≤◌, length, take, drop};
-ghost use Rattle.base.specs.Outcome.{and_then};
-ghost use Rattle.hex_line.specs.Line.{begun, read_line};
+ghost use Rattle.std.specs.Prelude.{◌≡◌, ◌+◌, ◌<◌, ◌==◌, length, drop, position};
+ghost use Rattle.std.specs.Iterator.{YieldsFirstRef, item_count};
+ghost use Rattle.hex_line.specs.Line.{begun, fault_number};
 ghost use Rattle.hex_text.specs.Text.{lines, first_length, text_outcome, end_answer, lines_answer, lines_buffer, text_answer, text_buffer};
-ghost use Rattle.hex_text.specs.Stream.{longest, stream_of, started, long_number, feed_stream, feed_buffer, told_number, finish_answer};
+ghost use Rattle.hex_text.specs.Stream.{started, long_number, push_stream, push_buffer, feed_stream, feed_buffer, told_number, finish_answer};
 
-use hex_line::{Line, Reader};
-
-// The text was read to its end; or it is refused, by this number of the table of answers.
-#[derive(Clone, Copy)]
-pub enum Text {
-    Read,
-    Refused(u8),
-}
+use hex_line::{Fault, Reader};
 
 // The answer behind the last line: 6 where no end line was read.
-fn end_answer(reader: Reader) -> Text
+fn end_answer(reader: Reader) -> Result<(), Fault>
     ensures { text_outcome result ≡ end_answer reader }
 {
-    let ended = reader.ended;
-    if ended { Text::Read } else { Text::Refused(6) }
-}
-
-// Where the line that starts at a position ends, its LF included.
-fn line_end(text: &[u8], at: usize) -> usize
-    requires { at < length text.now }
-    ensures { (result ≡ at + first_length (drop at text.now)) × (result ≤ length text.now) × (at < result) }
-{
-    let mut e = at;
-    while e < text.len() {
-        if text[e] == 10 {
-            return e + 1;
-        }
-        e += 1;
+    if reader.ended {
+        Ok(())
+    } else {
+        Err(Fault::AfterEnd)
     }
-    e
 }
 
-// The same for any position; a position at or past the text's end is handed back.
+// Where the first LF of a text stands.
+fn line_feed(text: &[u8]) -> Option<usize>
+    ensures { result ≡ position (λ c. c == 10) text.now }
+{
+    text.iter().position(|c| *c == b'\n')
+}
+
+// The position behind the line that starts at a position, its LF included; a position at or past the text's end is handed back.
 pub fn line_behind(text: &[u8], at: usize) -> usize
     ensures { result ≡ at + first_length (drop at text.now) }
 {
-    if at < text.len() {
-        return line_end(text, at);
+    if at >= text.len() {
+        return at;
     }
-    at
+    match line_feed(&text[at..]) {
+        Some(length) => at + length + 1,
+        None => text.len(),
+    }
+}
+
+// The lines of a text in turn, each with its LF.
+#[derive(Drop)]
+pub struct Lines<'a>(pub &'a [u8]);
+
+impl<'a> Iterator for Lines<'a> {
+    type Item = &'a [u8];
+
+    ghost next_gives = { YieldsFirstRef (λ s. lines s.0.now) };
+
+    ghost remaining = { item_count (λ s. lines s.0.now) };
+
+    fn next(&mut self) -> Option<&'a [u8]> {
+        if self.0.is_empty() {
+            return None;
+        }
+        let (line, rest) = self.0.split_at(line_behind(self.0, 0));
+        self.0 = rest;
+        Some(line)
+    }
 }
 
 // The answer to the lines of a text for a buffer of this length. It writes nothing.
-fn check_lines(text: &[u8], length: usize) -> Text
+#[tactic(auto, unfolding(crate::specs::Text::lines_answer))]
+fn check_lines(text: &[u8], length: usize) -> Result<(), Fault>
     ensures { text_outcome result ≡ lines_answer (lines text.now) begun length }
 {
-    let mut at: usize = 0;
     let mut reader = hex_line::new_reader();
-    while at < text.len() {
-        let e = line_end(text, at);
-        match hex_line::check_line(&text[at..e], length, reader) {
-            Line::Read(next) => {
-                reader = next;
-                at = e;
-            }
-            Line::Refused(fault) => {
-                return Text::Refused(hex_line::number(fault));
-            }
-        }
+    for line in Lines(text) {
+        reader = hex_line::check_line(line, length, reader)?;
     }
     end_answer(reader)
 }
 
 // Writes the data of the lines of a text, up to the first that is refused.
+#[tactic(auto, unfolding(crate::specs::Text::lines_buffer, hex_line::specs::Line::buffer_by))]
 fn write_lines(text: &[u8], buffer: &mut [u8])
     ensures { buffer.new ≡ lines_buffer (lines text.now) begun buffer.old }
 {
-    let mut at: usize = 0;
     let mut reader = hex_line::new_reader();
-    while at < text.len() {
-        let e = line_end(text, at);
-        match hex_line::read_line(&text[at..e], buffer, reader) {
-            Line::Read(next) => {
-                reader = next;
-                at = e;
-            }
-            Line::Refused(_) => {
-                return;
-            }
-        }
+    for line in Lines(text) {
+        let Ok(next) = hex_line::read_line(line, buffer, reader) else {
+            return;
+        };
+        reader = next;
     }
 }
 
 // Reads a whole text into a buffer. A refusal leaves the buffer as it was: the lines are checked first, then written.
-pub fn read_text(text: &[u8], buffer: &mut [u8]) -> Text
+#[tactic(auto, unfolding(crate::specs::Text::text_answer, crate::specs::Text::text_buffer))]
+pub fn read_text(text: &[u8], buffer: &mut [u8]) -> Result<(), Fault>
     ensures result_value { text_outcome result ≡ text_answer text.now (length buffer.old) }
     ensures buffer_after { buffer.new ≡ text_buffer text.now buffer.old }
 {
-    let length = buffer.len();
-    if hex_line::is_buffer_length(length) {
-        return match check_lines(text, length) {
-            Text::Read => {
-                write_lines(text, buffer);
-                Text::Read
-            }
-            Text::Refused(number) => Text::Refused(number),
-        };
+    if !hex_line::is_buffer_length(buffer.len()) {
+        return Err(Fault::WrongLength);
     }
-    Text::Refused(7)
+    check_lines(text, buffer.len())?;
+    write_lines(text, buffer);
+    Ok(())
 }
 
 // The longest valid line: a colon, 260 pairs of digits, CR LF.
 pub const LONGEST: usize = 523;
 
 // A file that is being read: the reader, the characters of the unfinished line, how many they are, and the number of the refusal, 0 while there is none.
-#[derive(Clone, Copy)]
+// Held characters and their count are no `Vec`: no heap. A number, and no `Option<Fault>`, which would ask more of a caller: `finish_answer` answers a stream with any number.
+#[derive(Clone, Copy, Debug, PartialEq, Eq)]
 pub struct Stream {
     pub reader: Reader,
     pub held: [u8; LONGEST],
@@ -120,129 +114,95 @@ pub struct Stream {
     pub number: u8,
 }
 
-fn make_stream(reader: Reader, held: [u8; LONGEST], count: usize, number: u8) -> Stream
-    ensures { result ≡ stream_of reader held count number }
-{
-    Stream {
-        reader: reader,
-        held: held,
-        count: count,
-        number: number,
-    }
-}
-
 // Before the first piece.
 pub fn start() -> Stream
     ensures { result ≡ started }
 {
-    make_stream(hex_line::new_reader(), [0u8; LONGEST], 0, 0)
-}
-
-// The number of a line that is longer than any valid one.
-fn long_number(reader: Reader, length: usize) -> u8
-    ensures { result ≡ long_number reader length }
-{
-    if hex_line::is_buffer_length(length) {
-        let ended = reader.ended;
-        if ended {
-            return 6;
-        }
-        return 1;
+    Stream {
+        reader: hex_line::new_reader(),
+        held: [0; LONGEST],
+        count: 0,
+        number: 0,
     }
-    7
 }
 
-// Reads the characters of a piece while no line is refused.
-fn feed_open(
-    start: Reader,
-    line: [u8; LONGEST],
-    filled: usize,
-    piece: &[u8],
-    buffer: &mut [u8],
-) -> Stream
-    ensures value { result ≡ feed_stream (length buffer.old) (stream_of start line filled 0) piece.now }
-    ensures buffer_after { buffer.new ≡ feed_buffer (stream_of start line filled 0) piece.now buffer.old }
+// The refusal of a line that is longer than any valid one.
+fn long_line(reader: Reader, length: usize) -> Fault
+    ensures { fault_number result ≡ long_number reader length }
 {
-    let mut reader = start;
-    let mut held = line;
-    let mut count = filled;
-    let mut at: usize = 0;
-    while at < piece.len() {
-        let c = piece[at];
-        at += 1;
-        let full = LONGEST <= count;
-        if full {
-            let number = long_number(reader, buffer.len());
-            return make_stream(reader, held, count, number);
+    if !hex_line::is_buffer_length(length) {
+        Fault::WrongLength
+    } else if reader.ended {
+        Fault::AfterEnd
+    } else {
+        Fault::Malformed
+    }
+}
+
+impl Stream {
+    // Reads one more character: it is held, and LF ends the line. Behind a refusal it is ignored.
+    #[tactic(auto, unfolding(crate::specs::Stream::push_stream, crate::specs::Stream::push_buffer))]
+    fn push(&mut self, c: u8, buffer: &mut [u8])
+        ensures value { self.new ≡ push_stream (length buffer.old) self.old c }
+        ensures buffer_after { buffer.new ≡ push_buffer self.old c buffer.old }
+    {
+        if self.number != 0 {
+            return;
         }
-        held[count] = c;
-        count += 1;
-        if c == 10 {
-            match hex_line::read_line(&held[..count], buffer, reader) {
-                Line::Read(next) => {
-                    reader = next;
-                    count = 0;
-                }
-                Line::Refused(fault) => {
-                    let number = hex_line::number(fault);
-                    return make_stream(reader, held, count, number);
-                }
+        if self.count >= LONGEST {
+            self.number = u8::from(long_line(self.reader, buffer.len()));
+            return;
+        }
+        self.held[self.count] = c;
+        self.count += 1;
+        if c != b'\n' {
+            return;
+        }
+        match hex_line::read_line(&self.held[..self.count], buffer, self.reader) {
+            Ok(next) => {
+                self.reader = next;
+                self.count = 0;
             }
+            Err(fault) => self.number = u8::from(fault),
         }
     }
-    make_stream(reader, held, count, 0)
 }
 
 // Reads the next piece of a file, cut anywhere. Behind a refusal all pieces are ignored.
-pub fn feed(s: Stream, piece: &[u8], buffer: &mut [u8]) -> Stream
+pub fn feed(mut s: Stream, piece: &[u8], buffer: &mut [u8]) -> Stream
     ensures value { result ≡ feed_stream (length buffer.old) s piece.now }
     ensures buffer_after { buffer.new ≡ feed_buffer s piece.now buffer.old }
 {
-    if s.number == 0 {
-        let reader = s.reader;
-        let held = s.held;
-        return feed_open(reader, held, s.count, piece, buffer);
+    for c in piece {
+        s.push(*c, buffer);
     }
     s
 }
 
-// The answer to a file whose last line has no LF. It writes nothing.
-fn check_last(reader: Reader, held: [u8; LONGEST], count: usize, length: usize) -> Text
-    requires { count ≤ longest }
-    ensures { text_outcome result ≡ and_then (read_line reader length (take count held)) end_answer }
+// The refusal by which a refused file is told. A stream that `start` and `feed` did not make can hold another number than 1 to 7, which counts as 1.
+fn told_fault(number: u8) -> Fault
+    requires { 0 < number }
+    ensures { fault_number result ≡ told_number number }
 {
-    match hex_line::check_line(&held[..count], length, reader) {
-        Line::Read(next) => end_answer(next),
-        Line::Refused(fault) => Text::Refused(hex_line::number(fault)),
-    }
-}
-
-// The number by which a refused file is told: 1 to 7. A stream that `start` and `feed` did not make can hold another number, which counts as 1.
-fn told_number(number: u8) -> u8
-    ensures { result ≡ told_number number }
-{
-    if number <= 7 { number } else { 1 }
+    Fault::try_from(number).unwrap_or(Fault::Malformed)
 }
 
 // The file ends: the answer for a buffer of this length. Nothing is left to write: a last line without LF is the end line, or the file is refused.
-pub fn finish(s: Stream, length: usize) -> Text
+#[tactic(auto, unfolding(crate::specs::Stream::finish_answer))]
+pub fn finish(s: Stream, length: usize) -> Result<(), Fault>
     ensures { text_outcome result ≡ finish_answer length s }
 {
-    let number = s.number;
-    if number != 0 {
-        return Text::Refused(told_number(number));
+    if s.number != 0 {
+        return Err(told_fault(s.number));
     }
-    if hex_line::is_buffer_length(length) {
-        let reader = s.reader;
-        let count = s.count;
-        if count == 0 {
-            return end_answer(reader);
-        }
-        if LONGEST < count {
-            return Text::Refused(long_number(reader, length));
-        }
-        let held = s.held;
-        return check_last(reader, held, count, length);
+    if !hex_line::is_buffer_length(length) {
+        return Err(Fault::WrongLength);
     }
-    Text::Refused(7)
+    if s.count == 0 {
+        return end_answer(s.reader);
+    }
+    if s.count > LONGEST {
+        return Err(long_line(s.reader, length));
+    }
+    end_answer(hex_line::check_line(&s.held[..s.count], length, s.reader)?)
 }

@@ -1,17 +1,16 @@
 -- The separate call of request 13, which converts an old line in place into its upper-case line: its answer, and the line behind it.
 -- Assumes nothing.
-use Rattle.std.specs.Prelude.{ℕ, ◌-◌, List, map}
+use Rattle.std.specs.Prelude.{ℕ, ◌-◌, Result, List, map}
 use Rattle.base.specs.Choice.{pick}
-use Rattle.base.specs.Outcome.{Outcome, on_outcome}
-use Rattle.base.specs.Outcome.Outcome.{value, refused}
+use Rattle.base.specs.Outcome.{Outcome, on_outcome, outcome_by}
 use Rattle.hex_line.specs.Record.{body_of}
 use Rattle.hex_line.specs.Line.{fault_number}
+use Rattle.hex_line.specs.declared.Fault.{Fault}
 use Rattle.hex_upper.specs.Former.{small_letter, former_check}
-use Rattle.hex_upper.specs.declared.Upper.{Upper}
 
-abbrev pub upper_outcome : Upper → Outcome (Unit {0})
-upper_outcome Upper.Converted = value tt
-upper_outcome (Upper.Refused fault) = refused (fault_number fault)
+-- what the conversion tells, by its fault's number
+abbrev pub upper_outcome : Result (Unit {0}) Fault → Outcome (Unit {0})
+upper_outcome = outcome_by fault_number
 
 -- the upper-case letter of a to f; any other character as it is
 abbrev pub upper_of : ℕ → ℕ

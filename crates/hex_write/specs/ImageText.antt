@@ -1,13 +1,13 @@
 -- The text of an image: upper-case records of 16 bytes and the end line, with LF. It goes by the bytes of a part's ROM, rom: 256 records and 11,276
 -- bytes of text for 4096, 128 and 5,644 for 2048 (request 04).
 -- Assumes nothing.
-use Rattle.std.specs.Prelude.{ℕ, zero, suc, ◌+◌, ◌-◌, ◌*◌, ◌/◌, ◌%◌, ◌≤◌, List, [], ◌∷◌, ◌++◌, length, get_or, drop, eqb, ltb, ◌≡◌, refl}
+use Rattle.std.specs.Prelude.{ℕ, zero, suc, ◌+◌, ◌-◌, ◌*◌, ◌/◌, ◌%◌, ◌≤◌, Result, List, [], ◌∷◌, ◌++◌, length, get_or, drop, eqb, ltb, ◌≡◌, refl}
 use Rattle.base.specs.Choice.{pick}
-use Rattle.base.specs.Outcome.{Outcome, on_outcome}
+use Rattle.base.specs.Outcome.{Outcome, on_outcome, outcome_by}
 use Rattle.base.specs.Outcome.Outcome.{value, refused}
 use Rattle.base.specs.Parts.{part_of}
 use Rattle.base.specs.declared.Profile.TheVariants.{Rom4K, Rom2K}
-use Rattle.hex_write.specs.declared.Written.{Written}
+use Rattle.base.specs.declared.InvalidArgument.{InvalidArgument}
 
 -- an upper-case digit
 abbrev pub hex_digit : ℕ → ℕ
@@ -69,9 +69,9 @@ record_counts = (refl, refl)
 pub text_lengths : (text_length (part_of Rom4K).rom ≡ 11276) × (text_length (part_of Rom2K).rom ≡ 5644)
 text_lengths = (refl, refl)
 
-abbrev pub written_outcome : Written → Outcome ℕ
-written_outcome (Written.Bytes n) = value n
-written_outcome Written.WrongLength = refused 7
+-- how many bytes were written, or 7
+abbrev pub written_outcome : Result ℕ InvalidArgument → Outcome ℕ
+written_outcome = outcome_by (λ e. 7)
 
 -- 7: an image of another length, or too short a buffer
 unfoldable pub write_answer : ℕ → ℕ → ℕ → Outcome ℕ

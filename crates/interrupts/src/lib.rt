@@ -1,4 +1,5 @@
 // Interrupts on the register file: the enable bit SYM.2, pending requests, and the requests of a schedule record.
+// Each step asks for them, so the tests are joined without a branch, by `|`: `||` takes 5 instructions more.
 #![tactic(auto)]
 
 ghost use Rattle.std.specs.Prelude.{◌≡◌};
@@ -20,11 +21,7 @@ pub fn interrupts_enabled(regs: &Registers) -> bool
 pub fn set_interrupts(regs: &mut Registers, on: bool)
     ensures { regs.new ≡ set_interrupts_of regs.old on }
 {
-    if on {
-        regs[SYM_INDEX] = 0x04;
-    } else {
-        regs[SYM_INDEX] = 0x00;
-    }
+    regs[SYM_INDEX] = if on { 0x04 } else { 0x00 };
 }
 
 // An external source is enabled and pending.
@@ -48,10 +45,8 @@ pub fn pending_any(regs: &Registers) -> bool
 fn raise(regs: &mut Registers, on: bool, a: RegAddr, bits: u8)
     ensures { regs.new ≡ raise_of regs.old on a.0 bits }
 {
-    let i = a.0 as usize;
     if on {
-        let v = regs[i] | bits;
-        regs[i] = v;
+        regs[usize::from(a.0)] |= bits;
     }
 }
 

@@ -1,7 +1,6 @@
 -- The opcode map (table 6-5), by low nibble (column) and high nibble (row); each form's length and cycles, and the flags that it names.
 -- Assumes nothing.
-use Rattle.std.specs.Prelude.{ℕ, ◌/◌, ◌%◌, List, [], ◌∷◌, ltb}
-use Rattle.isa.specs.declared.AluRow.{AluRow}
+use Rattle.std.specs.Prelude.{ℕ, ◌/◌, ◌%◌, List, [], ◌∷◌, Option, Some, None, ltb}
 use Rattle.isa.specs.declared.UnaryRow.{UnaryRow}
 use Rattle.base.specs.Choice.{pick, choose}
 use Rattle.isa.specs.declared.Alu.{Alu}
@@ -65,13 +64,13 @@ abbrev pub unary_row : ℕ → UnaryRow
 unary_row h = choose h unary_rows UnaryRow.Other
 
 -- rows of columns 2 to 6
-abbrev pub alu_rows : List (ℕ × AluRow)
+abbrev pub alu_rows : List (ℕ × Option Alu)
 alu_rows =
-    (0, AluRow.Op Add) ∷ (1, AluRow.Op Adc) ∷ (2, AluRow.Op Sub) ∷ (3, AluRow.Op Sbc) ∷ (4, AluRow.Op Or) ∷ (5, AluRow.Op And)
-    ∷ (6, AluRow.Op Tcm) ∷ (7, AluRow.Op Tm) ∷ (10, AluRow.Op Cp) ∷ (11, AluRow.Op Xor) ∷ []
+    (0, Some Add) ∷ (1, Some Adc) ∷ (2, Some Sub) ∷ (3, Some Sbc) ∷ (4, Some Or) ∷ (5, Some And)
+    ∷ (6, Some Tcm) ∷ (7, Some Tm) ∷ (10, Some Cp) ∷ (11, Some Xor) ∷ []
 
-abbrev pub alu_row : ℕ → AluRow
-alu_row h = choose h alu_rows AluRow.Other
+abbrev pub alu_row : ℕ → Option Alu
+alu_row h = choose h alu_rows None
 
 -- columns 0 and 1 in a row that holds this
 abbrev pub unary_cell : UnaryRow → ℕ → ℕ → Cell
@@ -80,9 +79,9 @@ unary_cell UnaryRow.Pop l h = choose l ((0, pop) ∷ []) pop_at
 unary_cell UnaryRow.Push l h = choose l ((0, push) ∷ []) push_at
 unary_cell UnaryRow.Other l h = choose l ((0, choose h ((3, jump_at) ∷ []) empty) ∷ []) empty
 
-abbrev pub alu_or : AluRow → (Alu → Cell) → Cell → Cell
-alu_or AluRow.Other f c = c
-alu_or (AluRow.Op a) f c = f a
+abbrev pub alu_or : Option Alu → (Alu → Cell) → Cell → Cell
+alu_or None f c = c
+alu_or (Some a) f c = f a
 
 -- columns 0 and 1
 abbrev pub unary_column : ℕ → ℕ → Cell

@@ -1,10 +1,10 @@
 -- The judgement of an image file and a certificate file (01, "Logger cases"): the image is read first; a refused file is told by its number, with
 -- address 0000H; where both are read the checker's verdict counts.
 -- Assumes nothing.
-use Rattle.std.specs.Prelude.{ℕ, List, ◌++◌, length, drop, replicate, ltb}
+use Rattle.std.specs.Prelude.{ℕ, Result, List, ◌++◌, length, drop, replicate, ltb}
 use Rattle.base.specs.Addresses.{rom_addr}
 use Rattle.base.specs.Choice.{pick}
-use Rattle.base.specs.Outcome.{Outcome, on_outcome}
+use Rattle.base.specs.Outcome.{Outcome, on_outcome, outcome_by}
 use Rattle.base.specs.Outcome.Outcome.{value, refused}
 use Rattle.base.specs.Lengths.{long_certificate_length}
 use Rattle.base.specs.Parts.{part_of}
@@ -15,6 +15,10 @@ use Rattle.certificate.specs.declared.Verdict.TheVariants.{Refused}
 use Rattle.certificate.specs.Layout.{certificate_of}
 use Rattle.safety.specs.Verdicts.{verdict_of}
 use Rattle.report.specs.Report.{longest_report, report_text}
+
+-- what was read, by the refusal's number
+abbrev pub number_outcome : Result (Unit {0}) ℕ → Outcome (Unit {0})
+number_outcome = outcome_by (λ n. n)
 
 -- a refused file
 abbrev pub refused_file : ℕ → Verdict

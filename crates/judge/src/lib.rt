@@ -5,12 +5,11 @@ ghost use Rattle.std.specs.Prelude.{◌≡◌, length};
 ghost use Rattle.hex_text.specs.Text.{text_outcome};
 ghost use Rattle.hex_write.specs.ImageText.{written_outcome};
 ghost use Rattle.report.specs.Report.{report_answer, report_buffer};
-ghost use Rattle.judge.specs.Judgement.{blank_image, blank_certificate, judgement};
+ghost use Rattle.judge.specs.Judgement.{blank_image, blank_certificate, judgement, number_outcome};
 
-use base::RomAddr;
+use base::{InvalidArgument, RomAddr};
 use certificate::Verdict;
-use hex_text::Text;
-use hex_write::Written;
+use hex_line::Fault;
 
 // The buffers before the files are read. A file without the byte at E482H leaves 0 there.
 #[tactic(auto, unfolding(crate::specs::Judgement::filled))]
@@ -27,29 +26,37 @@ pub fn blank_certificate() -> [u8; base::LONG_CERTIFICATE_LENGTH]
     [0; base::LONG_CERTIFICATE_LENGTH]
 }
 
-// A refused image file decides, then a refused certificate file, then the checker's verdict.
-pub fn judge(image: Text, certificate: Text, verdict: Verdict) -> Verdict
-    ensures { result ≡ judgement (text_outcome image) (text_outcome certificate) verdict }
+// What reading a file answered, by the refusal's number.
+pub fn numbered(answer: Result<(), Fault>) -> Result<(), u8>
+    ensures { number_outcome result ≡ text_outcome answer }
 {
-    match image {
-        Text::Refused(number) => Verdict::Refused(number, RomAddr(0)),
-        Text::Read => match certificate {
-            Text::Refused(number) => Verdict::Refused(number, RomAddr(0)),
-            Text::Read => verdict,
-        },
+    match answer {
+        Ok(()) => Ok(()),
+        Err(fault) => Err(u8::from(fault)),
     }
 }
 
-// Writes the text of the judgement at the front of a buffer. A refusal leaves the buffer as it was.
+// A refused image file decides, then a refused certificate file, then the checker's verdict.
+// Numbers, and no faults, which would ask more of a caller: `judgement` tells a file that is refused by any number.
+pub fn judge(image: Result<(), u8>, certificate: Result<(), u8>, verdict: Verdict) -> Verdict
+    ensures { result ≡ judgement (number_outcome image) (number_outcome certificate) verdict }
+{
+    match image.and(certificate) {
+        Ok(()) => verdict,
+        Err(number) => Verdict::Refused(number, RomAddr(0)),
+    }
+}
+
+// Writes the text of the judgement at the front of a buffer, and answers how many bytes were written. A refusal leaves the buffer as it was.
 pub fn write_judgement(
-    image: Text,
-    certificate: Text,
+    image: Result<(), u8>,
+    certificate: Result<(), u8>,
     verdict: Verdict,
     cert: &[u8],
     out: &mut [u8],
-) -> Written
-    ensures result_value { written_outcome result ≡ report_answer (judgement (text_outcome image) (text_outcome certificate) verdict) cert.now (length out.old) }
-    ensures out_after { out.new ≡ report_buffer (judgement (text_outcome image) (text_outcome certificate) verdict) cert.now out.old }
+) -> Result<usize, InvalidArgument>
+    ensures result_value { written_outcome result ≡ report_answer (judgement (number_outcome image) (number_outcome certificate) verdict) cert.now (length out.old) }
+    ensures out_after { out.new ≡ report_buffer (judgement (number_outcome image) (number_outcome certificate) verdict) cert.now out.old }
 {
     report::write_report(judge(image, certificate, verdict), cert, out)
 }

@@ -2,7 +2,7 @@
 use base::{IMAGE_4K, LONG_CERTIFICATE_LENGTH, Profile};
 use certificate::Verdict;
 use std::io;
-use test_support::{print, print_hex, print_number, put};
+use test_support::put;
 
 // The entry of 0127H, the first of the groups.
 const GROUPS: usize = 14 * 0x127;
@@ -11,15 +11,15 @@ const CELLS: usize = 0xE000;
 
 // A HEX text into a slice.
 fn load(bytes: &mut [u8], text: &[u8]) {
-    hex_text::read_text(text, bytes);
+    let _ = hex_text::read_text(text, bytes);
 }
 
-// A part so many times, one behind the other.
+// A part so many times, one behind the other. The place is carried: with `step_by` its end would have to be told.
 fn put_times(bytes: &mut [u8], at: usize, part: &[u8], times: usize) {
     let mut next = at;
     for _ in 0..times {
         put(bytes, next, part);
-        next = std::num::wrapping_add_usize(next, part.len());
+        next = next.wrapping_add(part.len());
     }
 }
 
@@ -79,17 +79,13 @@ fn put_groups(image: &mut [u8; IMAGE_4K], cert: &mut [u8; LONG_CERTIFICATE_LENGT
 }
 
 fn put_bound(cert: &mut [u8; LONG_CERTIFICATE_LENGTH], k: usize, n: u16) {
-    put(
-        cert,
-        GROUPS + 2 + 28 * (k % 1500),
-        &[(n / 256) as u8, (n % 256) as u8],
-    );
+    put(cert, GROUPS + 2 + 28 * (k % 1500), &n.to_be_bytes());
 }
 
 // The bounds in the groups: their instructions cost 4, 4 and 6, RET behind them 8.
 fn put_bounds(cert: &mut [u8; LONG_CERTIFICATE_LENGTH]) {
     for k in 0..1500u16 {
-        put_bound(cert, k as usize, 8 + 14 * (500 - k / 3) - 4 * (k % 3));
+        put_bound(cert, usize::from(k), 8 + 14 * (500 - k / 3) - 4 * (k % 3));
     }
 }
 
@@ -139,14 +135,9 @@ fn check_times(
 
 fn tell(rt: &impl Print, v: Verdict) -> io::Result<()> {
     match v {
-        Verdict::Accepted => print(rt, b" accepted\n")?,
-        Verdict::Refused(n, a) => tell_refused(rt, n, a.0)?,
+        Verdict::Accepted => println!(rt; " accepted"),
+        Verdict::Refused(n, a) => println!(rt; " refused {n} {:04x}", a.0),
     }
-    Ok(())
-}
-
-fn tell_refused(rt: &impl Print, n: u8, a: u16) -> io::Result<()> {
-    println!(rt; " refused {n} {a:04x}")
 }
 
 fn count_of(what: u64) -> u64 {
@@ -158,18 +149,20 @@ fn count_of(what: u64) -> u64 {
     }
 }
 
+// A match, and no table of functions: the parts take different arguments.
 fn fill(what: u64, image: &mut [u8; IMAGE_4K], cert: &mut [u8; LONG_CERTIFICATE_LENGTH]) {
     if what != 3 {
         put_main(image, cert);
     }
-    if what == 1 {
-        put_routine(image, cert);
-        put_groups(image, cert);
-        put_bounds(cert);
-    } else if what == 2 {
-        put_loop(image);
-    } else if what == 4 {
-        put_loads(image, cert);
+    match what {
+        1 => {
+            put_routine(image, cert);
+            put_groups(image, cert);
+            put_bounds(cert);
+        }
+        2 => put_loop(image),
+        4 => put_loads(image, cert),
+        _ => {}
     }
 }
 

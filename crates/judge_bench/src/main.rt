@@ -8,15 +8,14 @@ use std::rt::Env;
 mod certificates;
 mod texts;
 
-// 1 to 4 are certificates, 5 to 7 HEX texts.
+// 1 to 4 are certificates, 5 to 7 HEX texts. A function of its own, as in `machine_bench`.
+#[inline(never)]
 fn work(rt: &impl Print, what: u64) -> io::Result<()> {
-    test_support::print_number(rt, what)?;
-    if what < 5 {
-        certificates::work(rt, what)?;
-    } else {
-        texts::work(rt, what)?;
+    print!(rt; "{what}")?;
+    match what {
+        0..=4 => certificates::work(rt, what),
+        _ => texts::work(rt, what),
     }
-    Ok(())
 }
 
 // The first character of the argument, as a number, 0 where there is none.
@@ -26,14 +25,9 @@ fn argument(rt: &impl Env) -> u64 {
     test_support::number(&text)
 }
 
-// Two calls of `work`, as in `machine_bench`.
 fn main(rt: HostRuntime) -> io::Result<()> {
     let rows = test_support::rows_of(argument(&rt), 7);
-    let last = rows.last;
-    let mut what = rows.first;
-    work(&rt, what)?;
-    while what < last {
-        what += 1;
+    for what in rows.first..=rows.last {
         work(&rt, what)?;
     }
     Ok(())

@@ -1,9 +1,8 @@
 // Reading and writing an image of 4,096 bytes as Intel HEX, 11,276 bytes of text.
-use base::{IMAGE_4K, Profile};
-use hex_text::Text;
-use hex_write::{TEXT_LENGTH_4K, Written};
+use base::{IMAGE_4K, InvalidArgument, Profile};
+use hex_line::Fault;
+use hex_write::TEXT_LENGTH_4K;
 use std::io;
-use test_support::{print, print_number};
 
 // How often a text is read or written.
 const TURNS: u64 = 20000;
@@ -11,23 +10,21 @@ const TURNS: u64 = 20000;
 // The bytes of an image that has each value in each place modulo 256.
 fn image() -> [u8; IMAGE_4K] {
     let mut image = [0u8; IMAGE_4K];
-    for i in 0..IMAGE_4K {
-        image[i] = (i % 256) as u8;
+    for (i, byte) in image.iter_mut().enumerate() {
+        *byte = (i % 256) as u8;
     }
     image
 }
 
-fn answer_of(t: Text) -> u64 {
-    match t {
-        Text::Read => 0,
-        Text::Refused(n) => n as u64,
-    }
+fn answer_of(t: Result<(), Fault>) -> u64 {
+    u64::from(t.err().map_or(0, u8::from))
 }
 
-fn length_of(w: Written) -> u64 {
+// The same as `hex_cases::written_number`; no benchmark reads the cases of a file.
+fn length_of(w: Result<usize, InvalidArgument>) -> u64 {
     match w {
-        Written::Bytes(n) => n as u64,
-        Written::WrongLength => 7,
+        Ok(n) => n as u64,
+        Err(refusal) => u64::from(u8::from(refusal)),
     }
 }
 
@@ -37,46 +34,15 @@ fn stream(text: &[u8], buffer: &mut [u8]) -> u64 {
     answer_of(hex_text::finish(s, buffer.len()))
 }
 
-// Reads the whole text (5), reads it by feed and finish (6), or writes it.
-fn turn(
-    what: u64,
-    image: &[u8; IMAGE_4K],
-    text: &mut [u8; TEXT_LENGTH_4K],
-    buffer: &mut [u8; IMAGE_4K],
-) -> u64 {
-    match what {
-        5 => answer_of(hex_text::read_text(text, buffer)),
-        6 => stream(text, buffer),
-        _ => length_of(hex_write::write_image(Profile::Rom4K, image, text)),
-    }
-}
-
-fn turns(
-    what: u64,
-    image: &[u8; IMAGE_4K],
-    text: &mut [u8; TEXT_LENGTH_4K],
-    buffer: &mut [u8; IMAGE_4K],
-    count: u64,
-) -> u64 {
-    let mut answer: u64 = 0;
-    for _ in 0..count {
-        answer = turn(what, image, text, buffer);
+// The last answer of a turn that is made over and over.
+fn turns<F: FnMut() -> u64>(mut turn: F) -> u64
+    requires { F.IsAlwaysCallable turn }
+{
+    let mut answer = 0;
+    for _ in 0..TURNS {
+        answer = turn();
     }
     answer
-}
-
-fn same(a: &[u8; IMAGE_4K], b: &[u8; IMAGE_4K]) -> bool {
-    a == b
-}
-
-fn tell(rt: &impl Print, answer: u64, same: bool) -> io::Result<()> {
-    print!(rt; " {answer}")?;
-    if same {
-        print(rt, b" same\n")?;
-    } else {
-        print(rt, b" differs\n")?;
-    }
-    Ok(())
 }
 
 // 5 reads a whole text, 6 reads it by feed and finish, 7 writes it, each 20,000 times.
@@ -84,7 +50,12 @@ pub fn work(rt: &impl Print, what: u64) -> io::Result<()> {
     let image = image();
     let mut text = [0u8; TEXT_LENGTH_4K];
     let mut buffer = [0u8; IMAGE_4K];
-    turn(7, &image, &mut text, &mut buffer);
-    let answer = turns(what, &image, &mut text, &mut buffer, TURNS);
-    tell(rt, answer, (what == 7) | same(&image, &buffer))
+    length_of(hex_write::write_image(Profile::Rom4K, &image, &mut text));
+    let answer = match what {
+        5 => turns(|| answer_of(hex_text::read_text(&text, &mut buffer))),
+        6 => turns(|| stream(&text, &mut buffer)),
+        _ => turns(|| length_of(hex_write::write_image(Profile::Rom4K, &image, &mut text))),
+    };
+    let same = what == 7 || image == buffer;
+    println!(rt; " {answer} {}", if same { "same" } else { "differs" })
 }

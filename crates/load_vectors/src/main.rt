@@ -5,9 +5,7 @@
 use base::RECORD_LENGTH;
 use std::io;
 use std::io::Read;
-use std::rt::Files;
-use test_support::{Case, Counts, print, print_number, put};
-use xorshift::Filled;
+use test_support::{Case, Counts, put};
 
 // The most records of a case, and their bytes.
 const MOST: usize = 4000;
@@ -19,54 +17,23 @@ const LINE: usize = 2 * BYTES + 10;
 
 type Line = [u8; LINE];
 
-// A digit of the file: 0 to 9, a to f.
+// A digit of the file: 0 to 9, a to f. Apart from `hex_write::hex_digit`, whose letters are capitals.
 fn digit(x: u8) -> u8 {
-    let low = x % 16;
-    if low < 10 { low + 48 } else { low + 87 }
+    match x % 16 {
+        low @ 0..=9 => b'0' + low,
+        low => b'a' - 10 + low,
+    }
 }
 
 fn put_byte(line: &mut Line, at: usize, b: u8) {
     put(line, at, &[digit(b / 16), digit(b)]);
 }
 
-// The first n bytes of the records.
-fn put_bytes(line: &mut Line, records: &[u8; BYTES], n: usize) {
-    if n > BYTES {
-        return;
+// Bytes from a place on, two digits each.
+fn put_bytes(line: &mut Line, at: usize, bytes: &[u8]) {
+    for (place, b) in (at..LINE).step_by(2).zip(bytes) {
+        put_byte(line, place, *b);
     }
-    for i in 0..n {
-        put_byte(line, 2 * i, records[i]);
-    }
-}
-
-// The byte of a state from a bit on.
-fn byte_from(state: u32, bit: u32) -> u8 {
-    if bit < 32 {
-        ((state >> bit) % 256) as u8
-    } else {
-        0
-    }
-}
-
-// A blank behind n bytes of the records, and the state.
-fn put_state(line: &mut Line, n: usize, state: u32) {
-    if n > BYTES {
-        return;
-    }
-    let at = 2 * n;
-    put(line, at, b" ");
-    put_byte(line, at + 1, byte_from(state, 24));
-    put_byte(line, at + 3, byte_from(state, 16));
-    put_byte(line, at + 5, byte_from(state, 8));
-    put_byte(line, at + 7, byte_from(state, 0));
-}
-
-// Fills the first n bytes of a buffer; 255 where it has fewer.
-fn fill_front(seed: u32, buffer: &mut [u8], n: usize) -> Filled {
-    if buffer.len() < n {
-        return Filled::Refused(255);
-    }
-    xorshift::fill(seed, &mut buffer[..n])
 }
 
 // What stands in a line behind the number of records; nothing where they are too many for this program.
@@ -75,14 +42,16 @@ fn line_of(seed: u32, count: usize) -> Line {
     if count > MOST {
         return line;
     }
-    let n = count * RECORD_LENGTH;
-    let mut records = [0u8; BYTES];
-    match fill_front(seed, &mut records, n) {
-        Filled::State(state) => {
-            put_bytes(&mut line, &records, n);
-            put_state(&mut line, n, state);
+    let mut buffer = [0u8; BYTES];
+    let records = &mut buffer[..count * RECORD_LENGTH];
+    match xorshift::fill(seed, records) {
+        Ok(state) => {
+            let at = 2 * records.len();
+            put_bytes(&mut line, 0, records);
+            put(&mut line, at, b" ");
+            put_bytes(&mut line, at + 1, &state.to_be_bytes());
         }
-        Filled::Refused(number) => put(&mut line, 0, &[digit(number)]),
+        Err(refusal) => put(&mut line, 0, &[digit(u8::from(refusal))]),
     }
     line
 }
@@ -92,7 +61,7 @@ fn read_number(file: &mut impl Read, first: u8) -> u64 {
     let mut number: u64 = 0;
     let mut b = first;
     for _ in 0..11 {
-        if (b < 48) | (57 < b) {
+        if !b.is_ascii_digit() {
             return number;
         }
         number = test_support::with_digit(number, b);
@@ -101,115 +70,81 @@ fn read_number(file: &mut impl Read, first: u8) -> u64 {
     number
 }
 
-fn run_case(rt: &impl Print, file: &mut impl Read, counts: Counts) -> io::Result<Case> {
+fn run_case(rt: &impl Print, file: &mut impl Read, counts: Counts) -> io::Result<Option<Case>> {
     let first = test_support::read_byte(file);
     if first == 0 {
-        return Ok(Case::End);
+        return Ok(None);
     }
     let seed = read_number(file, first);
     let first_of_count = test_support::read_byte(file);
     let count = read_number(file, first_of_count);
     let mut line = [0u8; LINE];
     test_support::read_line(file, &mut line);
-    let made = line_of((seed % 4294967296) as u32, count as usize);
+    let made = line_of((seed % (1 << 32)) as u32, count as usize);
     if line == made {
-        return Ok(Case::Same);
+        return Ok(Some(Case::Same));
     }
-    if test_support::tells(rt, counts)? {
-        print(rt, b" differs\n")?;
+    if counts.tells(rt)? {
+        println!(rt; " differs")?;
     }
-    Ok(Case::Differs)
-}
-
-fn run_cases(rt: &(impl Files + Print + Eprint)) -> io::Result<()> {
-    let mut file = test_support::open(rt, b"sched.txt")?;
-    let mut counts = test_support::start();
-    while counts.left > 0 {
-        counts = test_support::counted(counts, run_case(rt, &mut file, counts)?);
-    }
-    test_support::finish(rt, file, counts)
+    Ok(Some(Case::Differs))
 }
 
 // The record of two states: the lowest byte first, bits 5 to 7 of byte 0 cleared.
 fn record_of(first: u32, second: u32) -> [u8; RECORD_LENGTH] {
-    [
-        byte_from(first, 0) & 0x1F,
-        byte_from(first, 8),
-        byte_from(first, 16),
-        byte_from(first, 24),
-        byte_from(second, 0),
-        byte_from(second, 8),
-        byte_from(second, 16),
-        byte_from(second, 24),
-    ]
-}
-
-// The state that came back, 0 where none did.
-fn state_of(answer: Filled) -> u32 {
-    match answer {
-        Filled::State(state) => state,
-        Filled::Refused(_) => 0,
-    }
+    let mut record = [0u8; RECORD_LENGTH];
+    record[..4].copy_from_slice(&first.to_le_bytes());
+    record[4..].copy_from_slice(&second.to_le_bytes());
+    record[0] &= 0x1F;
+    record
 }
 
 // Makes one record. Prints the two published states that it should hold, and `differ` if the record or the state that came back is another. Answers that
 // state, which should be the second.
 fn compare_record(rt: &impl Print, seed: u32, first: u32, second: u32) -> io::Result<u32> {
     let mut record = [0u8; RECORD_LENGTH];
-    let state = state_of(xorshift::fill(seed, &mut record));
+    let state = xorshift::fill(seed, &mut record).unwrap_or(0);
     print!(rt; " {first} {second}")?;
-    let same = record == record_of(first, second);
-    if !(same & (state == second)) {
-        print(rt, b" differ")?;
+    if record != record_of(first, second) || state != second {
+        print!(rt; " differ")?;
     }
     Ok(state)
 }
 
 // The first six states, as they are published.
 fn published(rt: &impl Print) -> io::Result<()> {
-    print(rt, b"1:")?;
+    print!(rt; "1:")?;
     let a = compare_record(rt, 1, 270369, 67634689)?;
     let b = compare_record(rt, a, 2647435461, 307599695)?;
     compare_record(rt, b, 2398689233, 745495504)?;
-    print(rt, b"\n2463534242:")?;
+    print!(rt; "\n2463534242:")?;
     let c = compare_record(rt, 2463534242, 723471715, 2497366906)?;
     let d = compare_record(rt, c, 2064144800, 2008045182)?;
     compare_record(rt, d, 3532304609, 374114282)?;
-    print(rt, b"\n")
+    println!(rt; "")
 }
 
-// The number of an answer, 0 where the buffer was filled.
-fn number_of(answer: Filled) -> u8 {
-    match answer {
-        Filled::State(_) => 0,
-        Filled::Refused(number) => number,
-    }
-}
-
-// Prints the answer to a seed and a length, and whether a refused buffer has changed.
-fn fill_length(rt: &impl Print, seed: u32, length: usize) -> io::Result<()> {
-    let mut buffer = [0xA5u8; 18];
-    let number = number_of(fill_front(seed, &mut buffer, length));
-    print!(rt; " {number}")?;
-    let same = buffer == [0xA5u8; 18];
-    if (number != 0) & !same {
-        print(rt, b" changed")?;
-    }
-    Ok(())
-}
-
-// Every length from 0 to 17.
+// Prints the answer to every length from 0 to 17, 0 where the buffer was filled, and whether a refused buffer has changed.
 fn fill_lengths(rt: &impl Print, seed: u32) -> io::Result<()> {
     print!(rt; "{seed}:")?;
     for length in 0..18 {
-        fill_length(rt, seed, length)?;
+        let mut buffer = [0xA5u8; 18];
+        let refused = xorshift::fill(seed, &mut buffer[..length]).err();
+        print!(rt; " {}", refused.map_or(0, u8::from))?;
+        if refused.is_some() && buffer != [0xA5u8; 18] {
+            print!(rt; " changed")?;
+        }
     }
-    print(rt, b"\n")
+    println!(rt; "")
 }
 
 fn main(rt: HostRuntime) -> io::Result<()> {
     published(&rt)?;
     fill_lengths(&rt, 0)?;
     fill_lengths(&rt, 1)?;
-    run_cases(&rt)
+    test_support::run_cases(
+        &rt,
+        b"sched.txt",
+        |file, counts| run_case(&rt, file, counts),
+    )
 }

@@ -3,14 +3,15 @@
 
 ghost use Rattle.std.specs.Prelude.{◌≡◌};
 ghost use Rattle.base.specs.Outcome.Outcome.{value};
-ghost use Rattle.certificate.specs.Layout.{certificate_of};
+ghost use Rattle.entries.specs.Fields.{said_by};
 ghost use Rattle.safety.specs.CodeRange.{load_range};
 ghost use Rattle.safety.specs.Verdicts.{cost_at};
 ghost use Rattle.located.specs.Located.{none_at, located_in, located_at};
 
 use base::RomAddr;
 use certificate::Summary;
-use isa::{Decoded, FlagSet, Instruction};
+use claims::EntryAt;
+use isa::Decoded;
 
 // An instruction's summary, and the address behind it.
 #[derive(Clone, Copy)]
@@ -23,43 +24,35 @@ pub struct Located {
 fn no_instruction(a: RomAddr) -> Located
     ensures { result ≡ none_at a.0 }
 {
-    let s = summary::forbidden();
     Located {
-        summary: s,
-        next: RomAddr(std::num::wrapping_add_u16(a.0, 1)),
+        summary: summary::forbidden(),
+        next: RomAddr(a.0.wrapping_add(1)),
     }
 }
 
-// The instruction of n bytes that was decoded at an address, with the flags that it names.
+// The instruction that was decoded at an address.
 #[tactic(auto, unfolding(crate::specs::Located::located_in, safety::specs::Verdicts::summary_from))]
-fn decoded_at(
-    image: &[u8],
-    cert: &[u8],
-    i: Instruction,
-    n: u8,
-    names: FlagSet,
-    a: RomAddr,
-) -> Located
-    ensures { result ≡ located_in (load_range (certificate_of cert.now) image.now a.0) (value (i, n, names)) a.0 }
+fn decoded_at(image: &[u8], at: &EntryAt, decoded: Decoded) -> Located
+    ensures { result ≡ located_in (load_range (said_by at.now.certificate) image.now at.now.address.0) (value (decoded.instruction, decoded.length, decoded.names)) at.now.address.0 }
 {
-    let next = RomAddr(std::num::wrapping_add_u16(a.0, n as u16));
-    let act = action::action_of(i, next);
-    Located {
-        summary: summary::summary_of(image, cert, a, act, names),
-        next: next,
-    }
+    let next = RomAddr(at.address.0.wrapping_add(u16::from(decoded.length)));
+    let action = action::action_of(decoded.instruction, next);
+    let summary = summary::summary_of(
+        |c| code_range::load_range(image, at, c),
+        action,
+        decoded.names,
+    );
+    Located { summary, next }
 }
 
-// The instruction at an address; what does not decode there is forbidden.
+// The instruction at an entry's address; what does not decode there is forbidden.
 #[tactic(auto, unfolding(crate::specs::Located::located_in, safety::specs::Verdicts::summary_from))]
-pub fn instruction_at(image: &[u8], cert: &[u8], a: RomAddr) -> Located
-    ensures { result ≡ located_at (certificate_of cert.now) image.now a.0 }
+pub fn instruction_at(image: &[u8], at: &EntryAt) -> Located
+    ensures { result ≡ located_at (said_by at.now.certificate) image.now at.now.address.0 }
 {
-    match decode::decode(image, a.0 as usize) {
-        Decoded::Found(i, n, names) => decoded_at(image, cert, i, n, names, a),
-        Decoded::CutOff => no_instruction(a),
-        Decoded::Undefined => no_instruction(a),
-        Decoded::OddPair => no_instruction(a),
+    match decode::decode(image, usize::from(at.address.0)) {
+        Ok(decoded) => decoded_at(image, at, decoded),
+        Err(_) => no_instruction(at.address),
     }
 }
 

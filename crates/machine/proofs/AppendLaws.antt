@@ -18,8 +18,7 @@ use Rattle.base.specs.Formula.{eqb_yes, eqb_no, case_bool}
 use Rattle.base.specs.Lengths.{record_length}
 use Rattle.semantics.specs.Setup.{Setup}
 use Rattle.semantics.specs.declared.State.{State}
-use Rattle.semantics.specs.declared.Stepped.{Stepped}
-use Rattle.semantics.specs.declared.Ran.{Ran}
+use Rattle.semantics.specs.Left.{Stepped, Ran}
 use Rattle.semantics.specs.Step.{valid_machine, acted_of, step_of}
 use Rattle.semantics.specs.Run.{ran, record_at, run_from, run_of}
 use Rattle.coverage.specs.Map.{is_map_length, marked, map_of}

@@ -19,8 +19,7 @@ use Rattle.semantics.specs.Setup.{Setup}
 use Rattle.semantics.specs.declared.Mode.{Mode}
 use Rattle.semantics.specs.declared.Mode.TheVariants.{Running, Idle, Stopped}
 use Rattle.semantics.specs.declared.State.{State}
-use Rattle.semantics.specs.declared.Stepped.{Stepped}
-use Rattle.semantics.specs.declared.Ran.{Ran}
+use Rattle.semantics.specs.Left.{Stepped, Ran}
 use Rattle.semantics.specs.Execute.{Executed}
 use Rattle.semantics.specs.Step.{Acted, entry_due, finish_of, after_decode, instruction_act, mode_act, act_after_requests, requested, acted_of, settled, valid_machine, step_of}
 use Rattle.semantics.specs.Run.{ran, record_at, run_from, run_of}

@@ -15,7 +15,7 @@ use Rattle.base.specs.Formula.{eqb_yes, case_bool, same?, le?}
 use Rattle.base.specs.Lengths.{largest_rom, is_entry_cost, record_length}
 use Rattle.semantics.specs.Setup.{Setup}
 use Rattle.semantics.specs.declared.State.{State}
-use Rattle.semantics.specs.declared.Ran.{Ran}
+use Rattle.semantics.specs.Left.{Ran}
 use Rattle.semantics.specs.Step.{valid_machine, acted_of}
 use Rattle.semantics.specs.Refusals.{StepNumber, run_number, run_seven}
 use Rattle.semantics.specs.Run.{ran, record_at, run_of}

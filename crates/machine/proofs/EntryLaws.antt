@@ -13,7 +13,7 @@ use Rattle.base.specs.Parts.{Part}
 use Rattle.chip.specs.Registers.{inputs_of}
 use Rattle.semantics.specs.Setup.{Setup}
 use Rattle.semantics.specs.declared.State.{State}
-use Rattle.semantics.specs.declared.Stepped.{Stepped}
+use Rattle.semantics.specs.Left.{Stepped}
 use Rattle.semantics.specs.Execute.{Executed}
 use Rattle.semantics.specs.Step.{Acted, refuse, refused_act, moved_to, finish_of, enter_of, entry_due, requested, act_after_requests, acted_of, settled}
 use Rattle.semantics.specs.Step.{valid_machine, step_of}

@@ -1,11 +1,20 @@
 -- Records of a schedule: what the step of one says of the run.
 -- Assumes nothing.
-use Rattle.std.proofs.Common.{◌≡◌, ◌∙◌, sym, ap, Bool, true, List, ℕ, suc, ◌+◌, ◌-◌, ◌*◌, ◌/◌, ◌<◌, arith, eq-eqb, ne_eqb, length, take, drop, length-take, length-drop}
+use Rattle.std.specs.Prelude.{zero, [], get_or, Option, None, Some, Err}
+use Rattle.std.specs.Simd.{first_chunks}
+use Rattle.std.specs.Option.{is_some}
+use Rattle.std.proofs.lemmas.List.{drop-drop}
+use Rattle.std.proofs.lemmas.Bool.{false≢true}
+use Rattle.std.proofs.Common.{refl, false, ◌≡◌, ◌∙◌, sym, ap, ap₂, Bool, true, List, ℕ, suc, ◌+◌, ◌-◌, ◌*◌, ◌/◌, ◌<◌, arith, eq-eqb, ne_eqb, length, take, drop, length-take, length-drop}
 use Rattle.base.specs.Lengths.{record_length}
 use Rattle.semantics.specs.Setup.{Setup}
 use Rattle.semantics.specs.declared.State.{State}
-use Rattle.semantics.specs.declared.Stepped.{Stepped}
-use Rattle.semantics.specs.Step.{acted_of, settled, valid_machine, step_of}
+use Rattle.semantics.specs.Left.{Stepped}
+use Rattle.semantics.specs.Step.{refuse, acted_of, settled, valid_machine, step_of}
+use Rattle.semantics.specs.Refusals.{step_stops}
+use Rattle.semantics.specs.declared.Stop.{Stop}
+use Rattle.semantics.specs.declared.Stop.TheVariants.{InvalidArgument, CutOff, Undefined, OddPair, Unmapped, ProgramMemory}
+use Rattle.semantics.specs.Stops.{stop_number, number_of, stepped_of}
 use Rattle.semantics.specs.Run.{record_at, run_from, ran}
 use Rattle.machine.specs.Count.{state_behind}
 use Rattle.machine.proofs.ReachedLaws.{state_next}
@@ -16,25 +25,51 @@ pub step_right : (K : Setup) (image : List ℕ) (s : State) (rec : List ℕ) →
 unfolding step_of
 step_right K image s rec h g = rw (h, g)
 
--- the bytes of record i
-pub part_length : (i : ℕ) → i * record_length + record_length - i * record_length ≡ record_length
-part_length i = omega arith
+-- chunk i of a schedule is its record i
+chunk_at : (n i : ℕ) (schedule : List ℕ) → i < n → get_or (first_chunks record_length n schedule) i [] ≡ record_at schedule i
+chunk_at zero i schedule h = absurd (omega (arith, h))
+chunk_at (suc n) zero schedule h = refl
+chunk_at (suc n) (suc i) schedule h =
+    let e : record_length + i * record_length ≡ suc i * record_length = omega arith in
+    chunk_at n i (drop record_length schedule) (omega (arith, h)) ∙ ap (λ (l : List ℕ). take record_length l) (drop-drop (i * record_length) record_length schedule ∙ ap (λ (m : ℕ). drop m schedule) e)
+
+pub record_read : (n i : ℕ) (schedule : List ℕ) (records : List (List ℕ)) → records ≡ first_chunks record_length n schedule → i < n
+    → get_or records i [] ≡ record_at schedule i
+record_read n i schedule records e h = ap (λ (l : List (List ℕ)). get_or l i []) e ∙ chunk_at n i schedule h
+
+-- a refusal has a number other than 0, and where there is none the number is 0
+number_not_zero : (stop : Stop) → stop_number stop ≡ 0 → ⊥
+number_not_zero InvalidArgument e = omega (arith, e)
+number_not_zero CutOff e = omega (arith, e)
+number_not_zero Undefined e = omega (arith, e)
+number_not_zero OddPair e = omega (arith, e)
+number_not_zero Unmapped e = omega (arith, e)
+number_not_zero ProgramMemory e = omega (arith, e)
+
+-- a step that is refused leaves the state before it
+pub refused_step : (K : Setup) (image : List ℕ) (s : State) (rec : List ℕ) (stop : Stop) → (step_of K image s rec).stop ≡ stop_number stop
+    → stepped_of s (Err stop) ≡ step_of K image s rec
+refused_step K image s rec stop e =
+    sym (ap₂ (λ (after : State) (n : ℕ). refuse after n) ((step_stops s K image rec).unchanged (λ z. number_not_zero stop (sym e ∙ z))) e)
+
+pub stop_numbered : (o : Option Stop) → is_some o ≡ true → number_of o ≡ 0 → ⊥
+stop_numbered None h e = false≢true h
+stop_numbered (Some stop) h e = number_not_zero stop e
+
+pub no_stop : (o : Option Stop) → is_some o ≡ false → number_of o ≡ 0
+no_stop None h = refl
+no_stop (Some stop) h = absurd (false≢true (sym h))
 
 module _ (n i : ℕ) (K : Setup) (image schedule : List ℕ) (s : State) (r : Stepped) (rec : List ℕ) (valid : valid_machine K image ≡ true)
-    (count : n ≡ length schedule / record_length) (h : i < n)
-    (w : rec ≡ take (i * record_length + record_length - i * record_length) (drop (i * record_length) schedule))
-    (e : r ≡ settled s (acted_of K image s rec)) where
-  this_record : rec ≡ record_at schedule i
-  this_record = rw (part_length i) at w
-
+    (count : n ≡ length schedule / record_length) (h : i < n) (w : rec ≡ record_at schedule i) (e : r ≡ settled s (acted_of K image s rec)) where
   this_step : r ≡ step_of K image s (record_at schedule i)
   this_step =
       let g : length (record_at schedule i) ≡ record_length = simp (length-take, length-drop) (omega arith) in
-      rw this_record at e ∙ sym (step_right K image s (record_at schedule i) valid g)
+      rw w at e ∙ sym (step_right K image s (record_at schedule i) valid g)
 
   -- it completes an instruction if the step of the record does
   pub retires : (b : Bool) → b ≡ (acted_of K image s rec).retired → b ≡ (acted_of K image s (record_at schedule i)).retired
-  retires b q = rw this_record at q
+  retires b q = rw w at q
 
   -- it leads to the state behind one record more
   pub comes_to : (start : State) → s ≡ state_behind i K image schedule 0 start → r.state ≡ state_behind (i + 1) K image schedule 0 start

@@ -10,7 +10,7 @@ use Rattle.base.specs.Formula.{eqb_yes, ltb_yes}
 use Rattle.semantics.specs.Setup.{Setup}
 use Rattle.semantics.specs.declared.State.{State}
 use Rattle.semantics.specs.Step.{acted_of, step_of}
-use Rattle.semantics.specs.declared.Ran.{Ran}
+use Rattle.semantics.specs.Left.{Ran}
 use Rattle.semantics.specs.Run.{record_at, run_of}
 use Rattle.coverage.specs.Map.{map_words, marked, inside, with_mark}
 use Rattle.coverage.specs.MapLaws.{Words, marked_with, map_of_marks}

@@ -16,8 +16,7 @@ use Rattle.semantics.specs.Setup.{Setup}
 use Rattle.semantics.specs.declared.Mode.{Mode}
 use Rattle.semantics.specs.declared.Mode.TheVariants.{Running, Idle, Stopped}
 use Rattle.semantics.specs.declared.State.{State}
-use Rattle.semantics.specs.declared.Stepped.{Stepped}
-use Rattle.semantics.specs.declared.Ran.{Ran}
+use Rattle.semantics.specs.Left.{Stepped, Ran}
 use Rattle.semantics.specs.Step.{entry_due, requested, valid_machine, step_of}
 use Rattle.semantics.specs.Run.{record_at}
 

@@ -5,7 +5,7 @@ use Rattle.std.specs.Prelude.{ℕ, zero, suc, ◌<◌, ◌≡◌, Bool, false, �
 use Rattle.base.specs.Choice.{pick}
 use Rattle.semantics.specs.Setup.{Setup}
 use Rattle.semantics.specs.declared.State.{State}
-use Rattle.semantics.specs.declared.Ran.{Ran}
+use Rattle.semantics.specs.Left.{Ran}
 use Rattle.semantics.specs.Step.{acted_of}
 use Rattle.semantics.specs.Run.{ran, record_at, run_of}
 use Rattle.coverage.specs.Map.{is_map_length, marked, inside, map_of}

@@ -25,19 +25,12 @@ const ENTRY_COST: usize = 1;
 
 pub const CONFIGURATION_LENGTH: usize = 2;
 
-fn mode_of(n: u8) -> Mode {
+fn mode_of(n: u8) -> Option<Mode> {
     match n {
-        0 => Mode::Running,
-        1 => Mode::Idle,
-        _ => Mode::Stopped,
-    }
-}
-
-fn mode_number(mode: Mode) -> u8 {
-    match mode {
-        Mode::Running => 0,
-        Mode::Idle => 1,
-        Mode::Stopped => 2,
+        0 => Some(Mode::Running),
+        1 => Some(Mode::Idle),
+        2 => Some(Mode::Stopped),
+        _ => None,
     }
 }
 
@@ -50,26 +43,19 @@ fn registers_of(bytes: &[u8]) -> [u8; 256] {
     regs
 }
 
-// The state that is given as bytes.
+// The state that is given as bytes; another mode's byte than 0 to 2 counts as STOP.
 pub fn state_of(bytes: &[u8]) -> State {
-    let regs = registers_of(bytes);
     State {
-        regs: regs,
+        regs: registers_of(bytes),
         pc: RomAddr(word_at(bytes, PC)),
-        mode: mode_of(byte_at(bytes, MODE)),
+        mode: mode_of(byte_at(bytes, MODE)).unwrap_or(Mode::Stopped),
         cycles: long_at(bytes, CYCLES),
     }
 }
 
-// Whether a state is the one that is given as bytes.
+// Whether a state is the one that is given as bytes, and its mode's byte is 0 to 2.
 pub fn same_state(state: State, bytes: &[u8]) -> bool {
-    let pc = state.pc;
-    let mode = state.mode;
-    let regs = state.regs;
-    (pc.0 == word_at(bytes, PC))
-        & (mode_number(mode) == byte_at(bytes, MODE))
-        & (state.cycles == long_at(bytes, CYCLES))
-        & (regs == registers_of(bytes))
+    mode_of(byte_at(bytes, MODE)).is_some() && state == state_of(bytes)
 }
 
 // Whether the machine has all of a state that is given as bytes: it has no divider yet.
@@ -84,7 +70,7 @@ fn profile_of(n: u8) -> Profile {
     }
 }
 
-// The configuration that is given as bytes.
+// The configuration that is given as bytes. A case with another number is run all the same, and told of as not supported.
 pub fn configuration_of(bytes: &[u8]) -> Configuration {
     Configuration {
         profile: profile_of(byte_at(bytes, PROFILE)),
@@ -99,8 +85,5 @@ pub fn is_configuration(bytes: &[u8]) -> bool {
 
 // The image of the configuration's part: the front of a buffer that has room for each part's.
 pub fn image_for(configuration: Configuration, buffer: &[u8; IMAGE_4K]) -> &[u8] {
-    let profile = configuration.profile;
-    let whole = &buffer[..];
-    let end = base::image_length(profile);
-    &whole[0..end]
+    &buffer[..base::image_length(configuration.profile)]
 }

@@ -17,10 +17,10 @@ fn mark(map: &mut Map, a: u16) -> bool {
     if LARGEST_ROM <= a {
         return false;
     }
-    let word = (a / 64) as usize;
+    let word = usize::from(a / 64);
     let bit = 1 << (a % 64);
     let is_new = map[word] & bit == 0;
-    map[word] = map[word] | bit;
+    map[word] |= bit;
     is_new
 }
 
@@ -28,9 +28,9 @@ fn mark(map: &mut Map, a: u16) -> bool {
 fn read_mark(file: &mut impl Read, map: &mut Map) -> Marks {
     let mut two = [0u8; 2];
     let n = test_support::read_full(file, &mut two);
-    let a = test_support::word(two[0], two[1]);
+    let a = base::word(two[0], two[1]);
     Marks {
-        whole: (n == 2) & (a < LARGEST_ROM),
+        whole: n == 2 && a < LARGEST_ROM,
         distinct: mark(map, a),
     }
 }
@@ -43,15 +43,8 @@ pub fn read_marks(file: &mut impl Read, count: u16, map: &mut Map) -> Marks {
     };
     for _ in 0..count {
         let next = read_mark(file, map);
-        marks = Marks {
-            whole: marks.whole & next.whole,
-            distinct: marks.distinct & next.distinct,
-        };
+        marks.whole &= next.whole;
+        marks.distinct &= next.distinct;
     }
     marks
-}
-
-// Whether two maps have the same marks.
-pub fn same_map(a: &Map, b: &Map) -> bool {
-    a == b
 }

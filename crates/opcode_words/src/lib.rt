@@ -51,7 +51,7 @@ fn cycle_word(row: u8) -> u64
     }
 }
 
-// The length of an instruction with this first byte, or 0.
+// The length of an instruction with this first byte, or 0. It and `cycles` stay two: one function over the words would be no shorter.
 #[tactic(auto, using(crate::proofs::Packed::length_at))]
 pub fn length(first: u8) -> u8
     ensures { result ≡ length_of first }

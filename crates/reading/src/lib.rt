@@ -16,7 +16,8 @@ pub fn open<R: Files>(rt: &R, name: &[u8]) -> io::Result<R::File> {
     }
 }
 
-// Reads until the buffer is full, the input ends or a read fails, and answers how many bytes it put at the buffer's front.
+// Reads until the buffer is full, the input ends or a read fails, and answers how many bytes it put at the buffer's front. A `while`: a read puts as many
+// bytes as it likes, so no range counts them, and `read_exact` does not answer how many there were.
 pub fn read_full<R: Read>(reader: &mut R, buffer: &mut [u8]) -> usize
     ensures { result ≤ length buffer.new }
 {

@@ -1,19 +1,21 @@
 -- What copying one instruction out of a byte list answers and leaves in a buffer: the very bytes that it was decoded from.
 -- Assumes nothing.
-use Rattle.std.specs.Prelude.{ℕ, List, ◌++◌, length, take, drop, ltb}
+use Rattle.std.specs.Prelude.{ℕ, List, ◌++◌, Result, length, take, drop, ltb}
 use Rattle.base.specs.Choice.{pick}
-use Rattle.base.specs.Outcome.{Outcome, and_then, on_outcome}
+use Rattle.base.specs.Outcome.{Outcome, and_then, on_outcome, outcome_by}
 use Rattle.base.specs.Outcome.Outcome.{value, refused}
 use Rattle.decode.specs.Decode.{decode_at}
-use Rattle.roundtrip.specs.declared.Copied.{Copied}
+use Rattle.isa.specs.Answer.{decode_error_number}
+use Rattle.roundtrip.specs.declared.CopyError.{CopyError}
+use Rattle.roundtrip.specs.declared.CopyError.TheVariants.{Short, Decode}
+
+abbrev pub copy_error_number : CopyError → ℕ
+copy_error_number Short = 7
+copy_error_number (Decode e) = decode_error_number e
 
 -- what each answer means: the number of bytes copied, or its number in the table of answers
-abbrev pub copied : Copied → Outcome ℕ
-copied (Copied.Done n) = value n
-copied Copied.Short = refused 7
-copied Copied.CutOff = refused 10
-copied Copied.Undefined = refused 11
-copied Copied.OddPair = refused 12
+abbrev pub copied : Result ℕ CopyError → Outcome ℕ
+copied = outcome_by copy_error_number
 
 -- the decoder's number; then 7 where the buffer has no room for the instruction decoded, since only decoding gives its length
 unfoldable pub copy_answer : List ℕ → ℕ → ℕ → Outcome ℕ

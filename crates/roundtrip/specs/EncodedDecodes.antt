@@ -1,6 +1,6 @@
 -- The bytes of an instruction decode to it, wherever they stand and whatever stands around them.
 -- Assumes nothing.
-use Rattle.std.specs.Prelude.{ℕ, suc, ◌+◌, ◌-◌, ◌*◌, ◌/◌, ◌%◌, ◌≤◌, ◌<◌, ◌≡◌, refl, Bool, true, false, List, [], ◌∷◌, ◌++◌, eqb, ltb, length, get_or}
+use Rattle.std.specs.Prelude.{ℕ, suc, ◌+◌, ◌-◌, ◌*◌, ◌/◌, ◌%◌, ◌≤◌, ◌<◌, ◌≡◌, refl, Bool, true, false, Some, List, [], ◌∷◌, ◌++◌, eqb, ltb, length, get_or}
 use Rattle.std.proofs.Common.{sym, ap, ◌∙◌, arith, add-zero, length-append, get_or-append-add, lt-ltb, le-leb, ltb-true}
 use Rattle.base.specs.Choice.{pick}
 use Rattle.base.specs.Outcome.{Outcome, and_then}
@@ -10,7 +10,6 @@ use Rattle.isa.specs.Map.Cell.{unary, unary_at, pop, pop_at, push, push_at, jump
 use Rattle.isa.specs.Map.Cell.{load_reg, load_reg_at, load_imm, load_at_imm, load_at_reg, call, load_indexed, store_indexed, ldc_load_long, ldc_store_long}
 use Rattle.isa.specs.Map.Cell.{load_work_at, load_at_work, ldc_load_short, ldc_store_short, load_work_reg, load_reg_work, jump_rel, load_work_imm, jump, inc_work, implied}
 use Rattle.isa.specs.declared.Alu.{Alu}
-use Rattle.isa.specs.declared.AluRow.{AluRow}
 use Rattle.isa.specs.declared.Unary.{Unary}
 use Rattle.isa.specs.declared.UnaryRow.{UnaryRow}
 use Rattle.isa.specs.declared.Implied.{Implied}
@@ -22,7 +21,7 @@ use Rattle.coded.specs.Operands.{nibbles}
 use Rattle.instruction_bytes.specs.Bytes.{alu_code, unary_code, implied_code, in_row, bytes_of}
 
 -- an operation's row holds it
-alu_row_lem : (a : Alu) → alu_row (alu_code a) ≡ AluRow.Op a
+alu_row_lem : (a : Alu) → alu_row (alu_code a) ≡ Some a
 alu_row_lem Alu.Add = refl
 alu_row_lem Alu.Adc = refl
 alu_row_lem Alu.Sub = refl

@@ -1,9 +1,10 @@
 -- Parts of rule 20, as the checker's code goes through them.
 -- Assumes nothing.
-use Rattle.std.specs.Prelude.{ℕ, ◌+◌, ◌*◌, List, get_or}
-use Rattle.base.specs.Formula.{Formula, Holds, le, lt, eq, neg, ◌&◌, ◌⇒◌, forall_below}
+use Rattle.std.specs.Prelude.{◌≡◌, ◌&&◌, ℕ, ◌+◌, ◌*◌, List, get_or}
+use Rattle.base.specs.Formula.{Formula, Holds, decide, le, lt, eq, neg, ◌&◌, ◌⇒◌, forall_below}
 use Rattle.base.specs.Lengths.{largest_rom, greatest_entry_cost}
 use Rattle.certificate.specs.Layout.{Certificate}
+use Rattle.claims.specs.Laws.{decide_same}
 use Rattle.safety.specs.Rules.{unloaded, present, used, cell_rule, claim_rule, compare_rule, entry_rule, start_rule, bare_rule, address_rule, rule20}
 
 module _ (C : Certificate) (a : ℕ) where
@@ -34,6 +35,11 @@ module _ (C : Certificate) (a : ℕ) where
   unfolding entry_rule routine_rule bound_rule claims_rule
   entry_join (lim, (u, deep)) (dir, (m, (d, main))) (c1, (c2, (two, k))) =
       (lim, (u, (dir, (m, (d, (c1, (c2, (two, (k, (deep, main))))))))))
+
+  pub entry_parts : decide (entry_rule C a) ≡ (decide routine_rule && decide bound_rule && decide claims_rule)
+  entry_parts =
+      decide_same (entry_rule C a) ((routine_rule & bound_rule) & claims_rule) (λ m. let h = entry_split m in ((h.0, h.1), h.2))
+      (λ m. entry_join m.0.0 m.0.1 m.1)
 
 module _ (C : Certificate) where
   unfoldable pub cells_rule : Formula
@@ -67,3 +73,10 @@ module _ (C : Certificate) where
   unfolding rule20 fixed_rule main_rule service_rule cells_rule starts_rule addresses_rule
   rule20_join rom image (f, (t, (cost, ((zero, ((s1, (d1, b1)), bare1)), (s2, (d2, bare2)))))) cells starts addresses =
       (f, (t, (cells, (zero, (s1, (d1, (b1, (s2, (d2, (starts, (bare1, (bare2, (addresses, cost)))))))))))))
+
+  pub rule20_parts : (rom : ℕ) (image : List ℕ)
+      → decide (rule20 C rom image)
+      ≡ (decide (fixed_rule image) && decide cells_rule && decide (starts_rule rom) && decide (addresses_rule rom))
+  rule20_parts rom image =
+      decide_same (rule20 C rom image) (((fixed_rule image & cells_rule) & starts_rule rom) & addresses_rule rom)
+      (λ m. let h = rule20_split rom image m in (((h.0, h.1), h.2), h.3)) (λ m. rule20_join rom image m.0.0.0 m.0.0.1 m.0.1 m.1)

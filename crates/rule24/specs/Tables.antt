@@ -3,23 +3,19 @@
 use Rattle.std.specs.Prelude.{ℕ, ◌≡◌, refl, Bool, true, false}
 use Rattle.std.proofs.Common.{subst, sym}
 use Rattle.std.proofs.Math.Dec.{T}
-use Rattle.base.specs.Formula.{Formula, decide, always, le, eq, test, neg, ◌&◌, ◌⇒◌, forall_below}
+use Rattle.base.specs.Formula.{Formula, decide, always, eq, test, neg, ◌&◌, ◌⇒◌}
 use Rattle.certificate.specs.Layout.{Certificate}
 use Rattle.safety.specs.Rules.{mapped, writable, reach}
 use Rattle.claims.specs.Laws.{decide_same}
+use Rattle.claims.specs.Values.{all_between}
 
-module _ (C : Certificate) (n : ℕ) where
-  -- where the pointer writes, routine n may write x
-  abbrev pub touched : Bool → ℕ → Formula
-  touched writing x = test writing ⇒ mapped x & writable C n x
+-- all of from to upto lies in one nonzero table, and is so
+unfoldable pub one_table : Certificate → ℕ → ℕ → (ℕ → Formula) → Formula
+one_table C from upto p = neg (eq (C.table from) 0) & all_between from upto (λ x. eq (C.table x) (C.table from) & p x)
 
-  -- x is of the same table as from
-  abbrev pub in_table : ℕ → Bool → ℕ → Formula
-  in_table from writing x = eq (C.table x) (C.table from) & touched writing x
-
-  unfoldable pub one_table : ℕ → ℕ → Bool → Formula
-  one_table from upto writing =
-      neg (eq (C.table from) 0) & forall_below 256 (λ x. le from x & le x upto ⇒ in_table from writing x)
+-- where the pointer writes, routine n may write x
+abbrev pub touched : Certificate → ℕ → Bool → ℕ → Formula
+touched C n writing x = test writing ⇒ mapped x & writable C n x
 
 module _ (C : Certificate) (a : ℕ) where
   -- what pointer p with offset o reaches at address a

@@ -1,123 +1,99 @@
 // Rule 24 at an address: pointers stay in their tables, and LDC in ROM.
 #![tactic(auto)]
 
-ghost use Rattle.std.specs.Prelude.{◌≡◌};
-ghost use Rattle.base.specs.Formula.{decide};
-ghost use Rattle.certificate.specs.Layout.{certificate_of};
-ghost use Rattle.safety.specs.Rules.{pointed_read, pointed_write, code_in_rom};
-ghost use Rattle.rule24.specs.Tables.{in_table, one_table, reach_of};
+ghost use Rattle.std.specs.Prelude.{◌≡◌, ◌<◌, ℕ, Bool};
+ghost use Rattle.base.specs.Formula.{Formula, decide};
+ghost use Rattle.entries.specs.Fields.{said_by};
+ghost use Rattle.safety.specs.Rules.{reach, pointed_read, pointed_write, code_in_rom};
+ghost use Rattle.rule24.specs.Tables.{one_table};
 
-use base::{RegAddr, RomAddr};
+use base::RegAddr;
 use certificate::{Access, CodeAccess, Summary, Write};
+use claims::EntryAt;
+use entries::Certificate;
 
-// x is of the same table as `from`, and where the pointer writes, routine n may write x.
-fn in_table(cert: &[u8], n: u8, from: RegAddr, writing: bool, x: RegAddr) -> bool
-    ensures { result ≡ decide (in_table (certificate_of cert.now) n from.0 writing x.0) }
-{
-    let first = entries::cell_row(cert, from);
-    let row = entries::cell_row(cert, x);
-    let stored = chip::mapped(x) & rules::writable(cert, n, x);
-    (row.table == first.table) & (!writing | stored)
-}
-
-// All of from to upto lies in one nonzero table, and where the pointer writes it may be written.
+// All of from to upto lies in one nonzero table, and passes a test.
 #[tactic(auto, unfolding(crate::specs::Tables::one_table))]
-fn one_table(cert: &[u8], n: u8, from: RegAddr, upto: RegAddr, writing: bool) -> bool
-    ensures { result ≡ decide (one_table (certificate_of cert.now) n from.0 upto.0 writing) }
+fn one_table<F: Fn(RegAddr) -> bool>(cert: &Certificate, from: u8, upto: u8, passes: F) -> bool
+    requires { F.IsAlwaysCallable passes }
+    ensures { (p : ℕ → Formula) → ((x : _) (r : Bool) → x.0 < 256 → F.post passes x r → r ≡ decide (p x.0))
+        → result ≡ decide (one_table (said_by cert.now) from upto p) }
 {
-    let row = entries::cell_row(cert, from);
-    if row.table == 0 {
-        return false;
-    }
-    let last = upto.0 as u16;
-    let mut x = from.0 as u16;
-    while x <= last {
-        if !in_table(cert, n, from, writing, RegAddr(x as u8)) {
-            return false;
-        }
-        x += 1;
-    }
-    true
+    let table = cert.cell(RegAddr(from)).table;
+    table != 0
+        && claims::all_between(
+            from,
+            upto,
+            |x| cert.cell(RegAddr(x)).table == table && passes(RegAddr(x)),
+        )
 }
 
-// Every address that the pointer's claim, plus the offset, reaches lies in one nonzero table, and where it writes may be written.
-#[tactic(auto, using(crate::proofs::Outside::table_outside, claims::specs::Laws::decide_same), unfolding(safety::specs::Rules::reach, crate::specs::Tables::one_table))]
-fn reach(cert: &[u8], a: RomAddr, p: RegAddr, o: u8, writing: bool) -> bool
-    ensures { result ≡ decide (reach_of (certificate_of cert.now) a.0 p.0 o writing) }
+// Every address that the pointer's claim, plus the offset, reaches lies in one nonzero table, and passes a test.
+fn reach<F: Fn(RegAddr) -> bool>(n: &EntryAt, p: RegAddr, o: u8, passes: F) -> bool
+    requires { F.IsAlwaysCallable passes }
+    ensures { (rule : ℕ → Formula) → ((x : _) (r : Bool) → x.0 < 256 → F.post passes x r → r ≡ decide (rule x.0))
+        → result ≡ decide (reach (said_by n.now.certificate) n.now.address.0 p.0 o rule) }
 {
-    let e = entries::entry_of(entries::entry_part(cert, a));
-    let from = claims::low_in(e, p) as u16 + o as u16;
-    let upto = claims::high_in(e, p) as u16 + o as u16;
-    if !claims::claimed_in(e, p) {
+    let claim = n.range(p);
+    let Some(from) = claim.least.checked_add(o) else {
         return false;
-    }
-    if 255 < upto {
+    };
+    let Some(upto) = claim.greatest.checked_add(o) else {
         return false;
-    }
-    if 255 < from {
-        return false;
-    }
-    one_table(
-        cert,
-        e.routine,
-        RegAddr(from as u8),
-        RegAddr(upto as u8),
-        writing,
-    )
+    };
+    n.claimed(p) && one_table(&n.certificate, from, upto, passes)
 }
 
-fn pointed_read(cert: &[u8], a: RomAddr, x: Access) -> bool
-    ensures { result ≡ decide (pointed_read (certificate_of cert.now) a.0 x) }
+fn pointed_read(n: &EntryAt, x: Access) -> bool
+    ensures { result ≡ decide (pointed_read (said_by n.now.certificate) n.now.address.0 x) }
 {
     match x {
-        Access::Nothing => true,
-        Access::Register(_) => true,
-        Access::Pointed(p, o) => reach(cert, a, p, o, false),
+        Access::Pointed(p, o) => reach(n, p, o, |_| true),
+        Access::Nothing | Access::Register(_) => true,
     }
 }
 
-fn pointed_write(cert: &[u8], a: RomAddr, w: Write) -> bool
-    ensures { result ≡ decide (pointed_write (certificate_of cert.now) a.0 w) }
+fn pointed_write(n: &EntryAt, w: Write) -> bool
+    ensures { result ≡ decide (pointed_write (said_by n.now.certificate) n.now.address.0 w) }
 {
     match w {
-        Write::Nothing => true,
-        Write::Register(_, _) => true,
-        Write::Pointed(p, o) => reach(cert, a, p, o, true),
-        Write::RegisterAndPair(_, _, _) => true,
+        Write::Pointed(p, o) => reach(
+            n,
+            p,
+            o,
+            |x| rules::open_to(&n.certificate, n.entry.routine, x),
+        ),
+        Write::Nothing | Write::Register(_, _) | Write::RegisterAndPair(_, _, _) => true,
     }
 }
 
 // The claims on both halves of the pair, with the offset unwrapped, stay in ROM.
-fn pair_in_rom(rom: u16, cert: &[u8], a: RomAddr, p: RegAddr, up: u16, down: u16) -> bool
-    ensures { result ≡ decide (code_in_rom (certificate_of cert.now) rom a.0 (CodeAccess.Pair p up down)) }
+fn pair_in_rom(rom: u16, n: &EntryAt, p: RegAddr, up: u16, down: u16) -> bool
+    ensures { result ≡ decide (code_in_rom (said_by n.now.certificate) rom n.now.address.0 (CodeAccess.Pair p up down)) }
 {
-    let e = entries::entry_of(entries::entry_part(cert, a));
-    let second = claims::second_half_range(e, p);
-    let low = claims::low_in(e, p) as u32 * 256 + second.least as u32 + up as u32;
-    let high = claims::high_in(e, p) as u32 * 256 + second.greatest as u32 + up as u32;
-    let inside = (down as u32 <= low) & (high < rom as u32 + down as u32);
-    claims::claimed_in(e, p) & inside
+    let first = n.range(p);
+    let second = n.second_half_range(p);
+    let low = u32::from(first.least) * 256 + u32::from(second.least) + u32::from(up);
+    let high = u32::from(first.greatest) * 256 + u32::from(second.greatest) + u32::from(up);
+    let down = u32::from(down);
+    n.claimed(p) && (down <= low && high < u32::from(rom) + down)
 }
 
-fn code_in_rom(rom: u16, cert: &[u8], a: RomAddr, c: CodeAccess) -> bool
-    ensures { result ≡ decide (code_in_rom (certificate_of cert.now) rom a.0 c) }
+fn code_in_rom(rom: u16, n: &EntryAt, c: CodeAccess) -> bool
+    ensures { result ≡ decide (code_in_rom (said_by n.now.certificate) rom n.now.address.0 c) }
 {
     match c {
         CodeAccess::Nothing => true,
         CodeAccess::Direct(t) => t.0 < rom,
-        CodeAccess::Pair(p, up, down) => pair_in_rom(rom, cert, a, p, up, down),
+        CodeAccess::Pair(p, up, down) => pair_in_rom(rom, n, p, up, down),
     }
 }
 
 // Rule 24, for a ROM of rom bytes.
 #[tactic(auto, unfolding(safety::specs::Rules::rule24))]
-pub fn rule24(rom: u16, cert: &[u8], a: RomAddr, s: Summary) -> bool
-    ensures { result ≡ decide (Rattle.safety.specs.Rules.rule24 (certificate_of cert.now) rom a.0 s) }
+pub fn rule24(rom: u16, n: &EntryAt, s: Summary) -> bool
+    ensures { result ≡ decide (Rattle.safety.specs.Rules.rule24 (said_by n.now.certificate) rom n.now.address.0 s) }
 {
-    let write = s.write;
-    let code = s.code;
-    let first = s.first;
-    let second = s.second;
-    let rest = pointed_write(cert, a, write) & code_in_rom(rom, cert, a, code);
-    pointed_read(cert, a, first) & (pointed_read(cert, a, second) & rest)
+    pointed_read(n, s.first)
+        && (pointed_read(n, s.second) && (pointed_write(n, s.write) && code_in_rom(rom, n, s.code)))
 }

@@ -7,7 +7,7 @@ use Rattle.certificate.specs.declared.NewValue.TheVariants.{Number, OneMore, One
 use Rattle.certificate.specs.Layout.{Certificate}
 use Rattle.safety.specs.Rules.{Edge, Change, follows}
 use Rattle.claims.specs.Laws.{decide_same}
-use Rattle.claims.specs.Values.{all_within, values_of, left_among, among_left}
+use Rattle.claims.specs.Values.{all_among, all_within, values_of, left_among, among_left}
 
 abbrev pub one_more_follows : ℕ → ℕ → ℕ → ℕ → Formula
 one_more_follows low high l h = (lt high 255 ⇒ le l (low + 1) & le (high + 1) h) & (le 255 high ⇒ eq l 0 & le 255 h)
@@ -28,7 +28,7 @@ module _ (C : Certificate) (a x l h : ℕ) where
 
   -- where nothing is stored, the values that are left must lie in the range
   pub follows_left : (e : Edge) → decide (all_within (values_of C a e x) l h) ≡ decide (follows C a e Change.unchanged x l h)
-  unfolding all_within
+  unfolding all_among
   follows_left e =
       decide_same (all_within (values_of C a e x) l h) (follows C a e Change.unchanged x l h)
       (λ m v hv k. m v hv (left_among C a e x v k)) (λ m v hv k. m v hv (among_left C a e x v k))

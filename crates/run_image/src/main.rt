@@ -2,13 +2,13 @@
 #![tactic(auto)]
 
 use base::{IMAGE_4K, Profile, RECORD_LENGTH};
-use hex_text::Text;
+use hex_line::Fault;
 use semantics::Configuration;
 use std::io;
 use std::rt::Files;
 
 // Reads a file of Intel HEX, of at most 65,536 bytes, into an image. A missing file counts as empty, which is refused by 6.
-fn read_image(rt: &impl Files, name: &[u8], image: &mut [u8; IMAGE_4K]) -> Text {
+fn read_image(rt: &impl Files, name: &[u8], image: &mut [u8; IMAGE_4K]) -> Result<(), Fault> {
     let mut text = [0u8; 65536];
     let n = match reading::open(rt, name) {
         Ok(mut file) => reading::read_full(&mut file, &mut text),
@@ -29,7 +29,7 @@ fn run(rt: &impl Print, image: &[u8; IMAGE_4K]) -> io::Result<()> {
     let ran = machine::run(configuration, image, machine::reset(), &schedule);
     let state = ran.state;
     // The number that ended the run, 0 if none did.
-    println!(rt; "number {}", ran.stop)?;
+    println!(rt; "number {}", ran.stop.map_or(0, u8::from))?;
     println!(rt; "steps {}", ran.steps)?;
     println!(rt; "cycles {}", state.cycles)?;
     println!(rt; "program counter {:04x}", state.pc.0)
@@ -39,7 +39,7 @@ fn main(rt: HostRuntime) -> io::Result<()> {
     // FFH stays where the file has no record.
     let mut image = [0xFFu8; IMAGE_4K];
     match read_image(&rt, b"image.hex", &mut image) {
-        Text::Read => run(&rt, &image),
-        Text::Refused(number) => println!(rt; "image.hex refused by {number}"),
+        Ok(()) => run(&rt, &image),
+        Err(fault) => println!(rt; "image.hex refused by {}", u8::from(fault)),
     }
 }

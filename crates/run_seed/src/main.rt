@@ -3,152 +3,130 @@
 // of an interrupt entry and the starts of instructions are those of `cert.hex`; without that file an entry takes none.
 #![tactic(auto)]
 
-ghost use Rattle.std.specs.Prelude.{◌≤◌, length};
-
-use base::{IMAGE_2K, IMAGE_4K, LONG_CERTIFICATE_LENGTH, Profile, RECORD_LENGTH, RomAddr};
+use base::{IMAGE_4K, LONG_CERTIFICATE_LENGTH, Profile, RECORD_LENGTH, RomAddr};
 use coverage::{Map, WORDS};
-use hex_text::Text;
-use semantics::{Configuration, Mode, Ran, State};
-use std::io;
+use hex_line::Fault;
+use semantics::{Configuration, Mode, State, Stop};
 use std::io::Read;
 use std::rt::{Env, Files};
-use uncovered::Lowest;
-use xorshift::Filled;
+use std::{io, str};
 
 type Certificate = [u8; LONG_CERTIFICATE_LENGTH];
 
 // The most records of one call of `run_covered`, and their bytes.
-const PART: u64 = 1000;
+const PART: usize = 1000;
 
-const SCHEDULE: usize = (PART as usize) * RECORD_LENGTH;
+const SCHEDULE: usize = PART * RECORD_LENGTH;
 
-// The greatest seed, and the greatest number of records.
-const GREATEST: u64 = 4294967295;
+// What the arguments ask for: the seed and the number of records, and the part.
+#[derive(Clone, Copy)]
+struct Arguments {
+    seed: u32,
+    count: u32,
+    profile: Profile,
+}
 
-// Where a run is: the machine, the steps done, the number that ended it, and, where none did, the seed of the records that follow.
+// Where a run is: the machine, the steps done, the refusal that ended it, and, where none did, the seed of the records that follow.
 #[derive(Clone, Copy)]
 struct Progress {
     state: State,
     steps: u64,
-    stop: u8,
+    stop: Option<Stop>,
     seed: u32,
 }
 
-// What an argument without a number gives.
-const NONE: u64 = GREATEST + 1;
-
-// The number that decimal digits give; NONE if there is none or it is above the greatest.
-fn number(text: &[u8]) -> u64 {
-    if text.len() == 0 {
-        return NONE;
+// The number that decimal digits give, of at most 32 bits.
+fn number(text: &[u8]) -> Option<u32> {
+    if !text.iter().all(|b| b.is_ascii_digit()) {
+        return None;
     }
-    let mut n: u64 = 0;
-    let mut i: usize = 0;
-    while i < text.len() {
-        let c = text[i];
-        if (c < 48) | (57 < c) {
-            return NONE;
-        }
-        n = n * 10 + (c % 16) as u64;
-        if n > GREATEST {
-            return NONE;
-        }
-        i += 1;
-    }
-    n
+    str::from_utf8(text).ok()?.parse().ok()
 }
 
-// Puts an argument at a buffer's front, and answers its length, 0 where there is none that fits.
-fn read_argument(rt: &impl Env, i: usize, text: &mut [u8]) -> usize
-    ensures { result ≤ length text.new }
-{
+// An argument, in a buffer; none where it is empty or does not fit.
+fn argument<'a>(rt: &impl Env, i: usize, text: &'a mut [u8; 16]) -> Option<&'a [u8]> {
     match rt.arg(i, text) {
-        Ok(n) => n,
-        Err(_) => 0,
+        Ok(0) | Err(_) => None,
+        Ok(n) => Some(&text[..n]),
     }
 }
 
-fn argument(rt: &impl Env, i: usize) -> u64 {
-    let mut text = [0u8; 16];
-    let n = read_argument(rt, i, &mut text);
-    number(&text[..n])
+fn number_argument(rt: &impl Env, i: usize) -> Option<u32> {
+    number(argument(rt, i, &mut [0; 16])?)
 }
 
-// Where a run is behind a part that was made and run.
-fn behind(p: Progress, ran: Ran, seed: u32) -> Progress {
-    let state = ran.state;
-    Progress {
-        state: state,
-        steps: std::num::wrapping_add_u64(p.steps, ran.steps as u64),
-        stop: ran.stop,
-        seed: seed,
+// The part that the third argument names, 4K if there is none.
+fn named_part(rt: &impl Env) -> Option<Profile> {
+    match argument(rt, 3, &mut [0; 16]) {
+        None | Some(b"4K") => Some(Profile::Rom4K),
+        Some(b"2K") => Some(Profile::Rom2K),
+        Some(_) => None,
     }
 }
 
-// Goes on over the records that fill a buffer, and marks in the map where completed instructions began.
-fn run_records(
-    configuration: Configuration,
-    image: &[u8],
-    p: Progress,
-    records: &mut [u8],
-    map: &mut Map,
-) -> Progress {
-    let state = p.state;
-    match xorshift::fill(p.seed, records) {
-        Filled::State(seed) => behind(
-            p,
-            machine::run_covered(configuration, image, state, records, map),
+fn read_arguments(rt: &impl Env) -> Option<Arguments> {
+    Some(Arguments {
+        seed: number_argument(rt, 1)?,
+        count: number_argument(rt, 2)?,
+        profile: named_part(rt)?,
+    })
+}
+
+impl Progress {
+    // From reset.
+    fn start(seed: u32) -> Progress {
+        Progress {
+            state: machine::reset(),
+            steps: 0,
+            stop: None,
             seed,
-        ),
-        Filled::Refused(number) => Progress {
-            state: state,
-            steps: p.steps,
-            stop: number,
-            seed: p.seed,
-        },
+        }
     }
-}
 
-// Goes on over the next n records, at most PART, unless the run has ended.
-fn run_part(
-    configuration: Configuration,
-    image: &[u8],
-    p: Progress,
-    n: u64,
-    map: &mut Map,
-) -> Progress {
-    if p.stop != 0 {
-        return p;
+    // Goes on over the records that fill a buffer, unless the run has ended, and marks in the map where completed instructions began.
+    fn over(
+        self,
+        configuration: Configuration,
+        image: &[u8],
+        records: &mut [u8],
+        map: &mut Map,
+    ) -> Progress {
+        if self.stop.is_some() {
+            return self;
+        }
+        match xorshift::fill(self.seed, records) {
+            Ok(seed) => {
+                let ran = machine::run_covered(configuration, image, self.state, records, map);
+                Progress {
+                    state: ran.state,
+                    steps: self.steps.wrapping_add(ran.steps as u64),
+                    stop: ran.stop,
+                    seed,
+                }
+            }
+            Err(refusal) => Progress {
+                stop: Some(Stop::from(refusal)),
+                ..self
+            },
+        }
     }
-    if n > PART {
-        return p;
-    }
-    let mut records = [0u8; SCHEDULE];
-    let length = (n as usize) * RECORD_LENGTH;
-    run_records(configuration, image, p, &mut records[..length], map)
 }
 
 // From reset, part by part: n records and then m are the n + m that the seed gives.
 fn run_parts(
     configuration: Configuration,
     image: &[u8],
-    seed: u32,
-    count: u64,
+    arguments: Arguments,
     map: &mut Map,
 ) -> Progress {
-    let state = machine::reset();
-    let mut p = Progress {
-        state: state,
-        steps: 0,
-        stop: 0,
-        seed: seed,
-    };
-    let mut left = count;
-    while left > PART {
-        p = run_part(configuration, image, p, PART, map);
-        left -= PART;
+    let mut records = [0u8; SCHEDULE];
+    let mut progress = Progress::start(arguments.seed);
+    let count = arguments.count as usize;
+    for _ in 0..count / PART {
+        progress = progress.over(configuration, image, &mut records, map);
     }
-    run_part(configuration, image, p, left, map)
+    let rest = &mut records[..count % PART * RECORD_LENGTH];
+    progress.over(configuration, image, rest, map)
 }
 
 fn print_row(rt: &impl Print, name: &str, value: u64) -> io::Result<()> {
@@ -160,9 +138,10 @@ fn print_address(rt: &impl Print, name: &str, a: RomAddr) -> io::Result<()> {
 }
 
 fn print_refused(rt: &impl Print, number: u8) -> io::Result<()> {
-    print_row(rt, "cert.hex refused by", number as u64)
+    print_row(rt, "cert.hex refused by", u64::from(number))
 }
 
+// No `Display` of `Mode`: no other program prints one.
 fn print_mode(rt: &impl Print, mode: Mode) -> io::Result<()> {
     rt.println(match mode {
         Mode::Running => "mode running",
@@ -173,16 +152,15 @@ fn print_mode(rt: &impl Print, mode: Mode) -> io::Result<()> {
 
 // The register file, sixteen bytes a row.
 fn print_registers(rt: &impl Print, state: State) -> io::Result<()> {
-    let regs = state.regs;
-    for i in 0..256 {
+    for (i, byte) in state.regs.iter().enumerate() {
         let separator = if i % 16 == 15 { "\n" } else { " " };
-        print!(rt; "{:02x}{separator}", regs[i])?;
+        print!(rt; "{byte:02x}{separator}")?;
     }
     Ok(())
 }
 
 // Reads a certificate's text from an open file, piece by piece: one that is not full is the last. No file has more pieces than it may read.
-fn read_pieces(file: &mut impl Read, cert: &mut Certificate) -> Text {
+fn read_pieces(file: &mut impl Read, cert: &mut Certificate) -> Result<(), Fault> {
     let mut s = hex_text::start();
     for _ in 0..u64::MAX {
         let mut piece = [0u8; 4096];
@@ -198,30 +176,32 @@ fn read_pieces(file: &mut impl Read, cert: &mut Certificate) -> Text {
 // Prints the lowest start of a certificate that the run has not reached.
 fn tell_lowest(rt: &impl Print, cert: &Certificate, map: &Map) -> io::Result<()> {
     match uncovered::lowest_unmarked(cert, map) {
-        Lowest::At(a) => print_address(rt, "lowest unmarked start", a),
-        Lowest::AllMarked => rt.println("every start is marked"),
-        Lowest::Refused(number) => print_refused(rt, number),
+        Ok(Some(a)) => print_address(rt, "lowest unmarked start", a),
+        Ok(None) => rt.println("every start is marked"),
+        Err(refusal) => print_refused(rt, u8::from(refusal)),
     }
 }
 
 // Prints what a run leaves, and how much code it has reached.
 fn tell(rt: &impl Print, p: Progress, map: &Map) -> io::Result<()> {
-    let state = p.state;
-    let pc = state.pc;
-    let mode = state.mode;
-    print_row(rt, "number", p.stop as u64)?;
+    print_row(
+        rt,
+        "number",
+        p.stop.map_or(0, |stop| u64::from(u8::from(stop))),
+    )?;
     print_row(rt, "steps", p.steps)?;
-    print_row(rt, "cycles", state.cycles as u64)?;
-    print_address(rt, "program counter", pc)?;
-    print_mode(rt, mode)?;
-    if p.stop == 0 {
-        print_row(rt, "next seed", p.seed as u64)?;
+    print_row(rt, "cycles", u64::from(p.state.cycles))?;
+    print_address(rt, "program counter", p.state.pc)?;
+    print_mode(rt, p.state.mode)?;
+    if p.stop.is_none() {
+        print_row(rt, "next seed", u64::from(p.seed))?;
     }
-    print_row(rt, "marked", coverage::count(map) as u64)
+    print_row(rt, "marked", u64::from(coverage::count(map)))
 }
 
+// As in `run_image`, which is a sample to copy whole.
 // Reads a file of Intel HEX, of at most 65,536 bytes, into an image. A missing file counts as empty, which is refused by 6.
-fn read_image(rt: &impl Files, name: &[u8], image: &mut [u8]) -> Text {
+fn read_image(rt: &impl Files, name: &[u8], image: &mut [u8]) -> Result<(), Fault> {
     let mut text = [0u8; 65536];
     let n = match reading::open(rt, name) {
         Ok(mut file) => reading::read_full(&mut file, &mut text),
@@ -231,114 +211,56 @@ fn read_image(rt: &impl Files, name: &[u8], image: &mut [u8]) -> Text {
 }
 
 // Runs, and tells; without a certificate an entry takes no cycles, and nothing is known of starts.
-fn run_alone(
+fn run_and_tell(
     rt: &impl Print,
-    profile: Profile,
     image: &[u8],
-    seed: u32,
-    count: u64,
+    cert: Option<&Certificate>,
+    arguments: Arguments,
 ) -> io::Result<()> {
     let mut map: Map = [0; WORDS];
     let configuration = Configuration {
-        profile: profile,
-        entry_cost: 0,
+        profile: arguments.profile,
+        entry_cost: match cert {
+            Some(cert) => entries::entry_cost(cert),
+            None => 0,
+        },
     };
-    let p = run_parts(configuration, image, seed, count, &mut map);
-    tell(rt, p, &map)?;
-    print_registers(rt, p.state)
-}
-
-// The same with a certificate.
-fn run_certified(
-    rt: &impl Print,
-    profile: Profile,
-    image: &[u8],
-    cert: &Certificate,
-    seed: u32,
-    count: u64,
-) -> io::Result<()> {
-    let mut map: Map = [0; WORDS];
-    let configuration = Configuration {
-        profile: profile,
-        entry_cost: entries::entry_cost(cert),
-    };
-    let p = run_parts(configuration, image, seed, count, &mut map);
-    tell(rt, p, &map)?;
-    tell_lowest(rt, cert, &map)?;
-    print_registers(rt, p.state)
+    let progress = run_parts(configuration, image, arguments, &mut map);
+    tell(rt, progress, &map)?;
+    if let Some(cert) = cert {
+        tell_lowest(rt, cert, &map)?;
+    }
+    print_registers(rt, progress.state)
 }
 
 // With the certificate in an open file; one that is refused has no cycles of an entry, so nothing is run.
 fn run_with(
     rt: &impl Print,
     file: &mut impl Read,
-    profile: Profile,
     image: &[u8],
-    seed: u32,
-    count: u64,
+    arguments: Arguments,
 ) -> io::Result<()> {
     let mut cert: Certificate = [0; LONG_CERTIFICATE_LENGTH];
     match read_pieces(file, &mut cert) {
-        Text::Read => run_certified(rt, profile, image, &cert, seed, count),
-        Text::Refused(number) => print_refused(rt, number),
+        Ok(()) => run_and_tell(rt, image, Some(&cert), arguments),
+        Err(fault) => print_refused(rt, u8::from(fault)),
     }
 }
 
-fn run_image(
-    rt: &(impl Files + Print),
-    profile: Profile,
-    image: &[u8],
-    seed: u32,
-    count: u64,
-) -> io::Result<()> {
+fn run_image(rt: &(impl Files + Print), image: &[u8], arguments: Arguments) -> io::Result<()> {
     match reading::open(rt, b"cert.hex") {
-        Ok(mut file) => run_with(rt, &mut file, profile, image, seed, count),
-        Err(_) => run_alone(rt, profile, image, seed, count),
+        Ok(mut file) => run_with(rt, &mut file, image, arguments),
+        Err(_) => run_and_tell(rt, image, None, arguments),
     }
 }
 
-// Reads the image into a buffer of the part's length, and runs it.
-fn run_in(
-    rt: &(impl Files + Print),
-    profile: Profile,
-    image: &mut [u8],
-    seed: u32,
-    count: u64,
-) -> io::Result<()> {
+// Reads the part's image, and runs it.
+fn run(rt: &(impl Files + Print), arguments: Arguments) -> io::Result<()> {
+    let mut buffer = [0xFF; IMAGE_4K];
+    let image = &mut buffer[..base::image_length(arguments.profile)];
     match read_image(rt, b"image.hex", image) {
-        Text::Read => run_image(rt, profile, image, seed, count),
-        Text::Refused(number) => print_row(rt, "image.hex refused by", number as u64),
-    }
-}
-
-fn run(rt: &(impl Files + Print), profile: Profile, seed: u32, count: u64) -> io::Result<()> {
-    match profile {
-        Profile::Rom4K => run_in(rt, profile, &mut [0xFF; IMAGE_4K], seed, count),
-        Profile::Rom2K => run_in(rt, profile, &mut [0xFF; IMAGE_2K], seed, count),
-    }
-}
-
-// The part that an argument names.
-#[derive(Clone, Copy)]
-enum Part {
-    Named(Profile),
-    Unknown,
-}
-
-// The third argument's, 4K if there is none.
-fn named_part(rt: &impl Env) -> Part {
-    let mut text = [0u8; 16];
-    let n = read_argument(rt, 3, &mut text);
-    if n == 0 {
-        return Part::Named(Profile::Rom4K);
-    }
-    if (n != 2) | (text[1] != b'K') {
-        return Part::Unknown;
-    }
-    match text[0] {
-        b'4' => Part::Named(Profile::Rom4K),
-        b'2' => Part::Named(Profile::Rom2K),
-        _ => Part::Unknown,
+        Ok(()) => run_image(rt, image, arguments),
+        Err(fault) => print_row(rt, "image.hex refused by", u64::from(u8::from(fault))),
     }
 }
 
@@ -349,14 +271,9 @@ fn usage(rt: &impl Eprint) -> io::Result<()> {
 }
 
 fn run_arguments(rt: &(impl Env + Files + Print + Eprint)) -> io::Result<()> {
-    let seed = argument(rt, 1);
-    let count = argument(rt, 2);
-    if (seed == NONE) | (count == NONE) {
-        return usage(rt);
-    }
-    match named_part(rt) {
-        Part::Named(profile) => run(rt, profile, (seed % NONE) as u32, count),
-        Part::Unknown => usage(rt),
+    match read_arguments(rt) {
+        Some(arguments) => run(rt, arguments),
+        None => usage(rt),
     }
 }
 

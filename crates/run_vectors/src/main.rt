@@ -9,12 +9,10 @@ use machine_states::{
     CONFIGURATION_LENGTH, STATE_LENGTH, configuration_of, image_for, is_configuration,
     is_supported_state, same_state, state_of,
 };
-use map_cases::same_map;
 use semantics::{Configuration, Ran, State};
 use std::io;
 use std::io::Read;
-use std::rt::Files;
-use test_support::{Case, Counts, print, print_number, word_at};
+use test_support::{Case, Counts, word_at};
 
 // Where the parts of what a case gives behind its image begin. The last is the count of the records, which follow it.
 const START: usize = 0;
@@ -60,107 +58,100 @@ fn agreement_of(ran: Ran, map: &Map, expected: &Expected, marks: &Map) -> Agreem
     let state = ran.state;
     let bytes = &expected[..];
     Agreement {
-        number: ran.stop == expected[NUMBER],
-        steps: ran.steps == word_at(bytes, STEPS) as usize,
+        number: ran.stop.map_or(0, u8::from) == expected[NUMBER],
+        steps: ran.steps == usize::from(word_at(bytes, STEPS)),
         state: same_state(state, &bytes[STATE..MARKED]),
-        map: same_map(map, marks),
+        map: map == marks,
     }
 }
 
-fn agrees(a: Agreement) -> bool {
-    a.number & a.steps & a.state & a.map
+impl Agreement {
+    fn is_full(self) -> bool {
+        self.number && self.steps && self.state && self.map
+    }
 }
 
-// A run that begins with one map and is expected to leave another.
-fn covered(
-    configuration: Configuration,
-    image: &[u8],
-    state: State,
-    records: &[u8],
-    start: Map,
-    expected: &Expected,
-    marks: &Map,
-) -> Agreement {
-    let mut map = start;
-    let ran = machine::run_covered(configuration, image, state, records, &mut map);
-    agreement_of(ran, &map, expected, marks)
-}
-
-// The runs of a case: with no map; and from no marks, from those of the case, and from all.
+// A run, and what it is expected to leave from an empty map.
 #[derive(Clone, Copy)]
-struct Runs {
+struct Run<'a> {
+    configuration: Configuration,
+    image: &'a [u8],
+    state: State,
+    records: &'a [u8],
+    expected: &'a Expected,
+    marks: &'a Map,
+}
+
+impl Run<'_> {
+    // With no map.
+    fn plain(&self) -> Agreement {
+        let ran = machine::run(self.configuration, self.image, self.state, self.records);
+        agreement_of(ran, self.marks, self.expected, self.marks)
+    }
+
+    // With a map that is expected to hold these marks behind the run.
+    fn covered(&self, mut map: Map, marks: &Map) -> Agreement {
+        let ran = machine::run_covered(
+            self.configuration,
+            self.image,
+            self.state,
+            self.records,
+            &mut map,
+        );
+        agreement_of(ran, &map, self.expected, marks)
+    }
+
+    fn agreements(&self) -> Agreements {
+        let all: Map = [u64::MAX; WORDS];
+        Agreements {
+            plain: self.plain(),
+            empty: self.covered([0; WORDS], self.marks),
+            again: self.covered(*self.marks, self.marks),
+            full: self.covered(all, &all),
+        }
+    }
+}
+
+// Of the runs of a case: with no map; and from no marks, from those of the case, and from all.
+#[derive(Clone, Copy)]
+struct Agreements {
     plain: Agreement,
     empty: Agreement,
     again: Agreement,
     full: Agreement,
 }
 
-fn runs_of(
-    configuration: Configuration,
-    image: &[u8],
-    given: &Given,
-    records: &[u8],
-    expected: &Expected,
-    marks: &Map,
-) -> Runs {
-    let bytes = &given[..];
-    let state = state_of(&bytes[START..RECORDS]);
-    let none: Map = [0; WORDS];
-    let all: Map = [u64::MAX; WORDS];
-    let ran = machine::run(configuration, image, state, records);
-    Runs {
-        plain: agreement_of(ran, marks, expected, marks),
-        empty: covered(configuration, image, state, records, none, expected, marks),
-        again: covered(
-            configuration,
-            image,
-            state,
-            records,
-            *marks,
-            expected,
-            marks,
-        ),
-        full: covered(configuration, image, state, records, all, expected, &all),
+impl Agreements {
+    fn are_full(self) -> bool {
+        self.plain.is_full() && self.empty.is_full() && self.again.is_full() && self.full.is_full()
     }
 }
 
-fn all_agree(r: Runs) -> bool {
-    let plain = r.plain;
-    let empty = r.empty;
-    let again = r.again;
-    let full = r.full;
-    agrees(plain) & agrees(empty) & agrees(again) & agrees(full)
-}
-
 // Prints a name unless it holds.
-fn tell_unless(rt: &impl Print, holds: bool, name: &[u8]) -> io::Result<()> {
+fn tell_unless(rt: &impl Print, holds: bool, name: &str) -> io::Result<()> {
     if !holds {
-        print(rt, name)?;
+        print!(rt; "{name}")?;
     }
     Ok(())
 }
 
-fn tell_run(rt: &impl Print, name: &[u8], a: Agreement) -> io::Result<()> {
-    tell_unless(rt, agrees(a), name)?;
-    tell_unless(rt, a.number, b" number")?;
-    tell_unless(rt, a.steps, b" steps")?;
-    tell_unless(rt, a.state, b" state")?;
-    tell_unless(rt, a.map, b" map")
+fn tell_run(rt: &impl Print, name: &str, a: Agreement) -> io::Result<()> {
+    tell_unless(rt, a.is_full(), name)?;
+    tell_unless(rt, a.number, " number")?;
+    tell_unless(rt, a.steps, " steps")?;
+    tell_unless(rt, a.state, " state")?;
+    tell_unless(rt, a.map, " map")
 }
 
-fn tell(rt: &impl Print, whole: bool, supported: bool, runs: Runs) -> io::Result<()> {
-    let plain = runs.plain;
-    let empty = runs.empty;
-    let again = runs.again;
-    let full = runs.full;
-    print(rt, b" differs")?;
-    tell_unless(rt, whole, b"; not whole")?;
-    tell_unless(rt, supported, b"; not supported")?;
-    tell_run(rt, b"; without a map:", plain)?;
-    tell_run(rt, b"; from no marks:", empty)?;
-    tell_run(rt, b"; from its marks:", again)?;
-    tell_run(rt, b"; from all marks:", full)?;
-    print(rt, b"\n")
+fn tell(rt: &impl Print, whole: bool, supported: bool, runs: Agreements) -> io::Result<()> {
+    print!(rt; " differs")?;
+    tell_unless(rt, whole, "; not whole")?;
+    tell_unless(rt, supported, "; not supported")?;
+    tell_run(rt, "; without a map:", runs.plain)?;
+    tell_run(rt, "; from no marks:", runs.empty)?;
+    tell_run(rt, "; from its marks:", runs.again)?;
+    tell_run(rt, "; from all marks:", runs.full)?;
+    println!(rt; "")
 }
 
 // Whether the machine has the part and the states of a case.
@@ -168,24 +159,23 @@ fn is_supported(configuration: &ConfigurationBytes, given: &Given, expected: &Ex
     let start = &given[..];
     let end = &expected[..];
     is_configuration(configuration)
-        & is_supported_state(&start[START..RECORDS])
-        & is_supported_state(&end[STATE..MARKED])
+        && is_supported_state(&start[START..RECORDS])
+        && is_supported_state(&end[STATE..MARKED])
 }
 
 // Reads the next records of a file, so many; whether the file has them all, and the slice has room for them.
 fn read_records(file: &mut impl Read, count: u16, schedule: &mut [u8]) -> bool {
-    let length = count as usize * RECORD_LENGTH;
-    if schedule.len() < length {
-        return false;
+    let length = usize::from(count) * RECORD_LENGTH;
+    match schedule.get_mut(..length) {
+        Some(part) => test_support::read_full(file, part) == length,
+        None => false,
     }
-    test_support::read_full(file, &mut schedule[0..length]) == length
 }
 
 // The first records of a schedule, so many.
 fn first_records(schedule: &Schedule, count: u16) -> &[u8] {
     let all = &schedule[..];
-    let length = count as usize * RECORD_LENGTH;
-    &all[0..length]
+    &all[..usize::from(count) * RECORD_LENGTH]
 }
 
 // A function of its own, so that no proof looks at the zeros.
@@ -213,40 +203,31 @@ fn compare(
     let marked = map_cases::read_marks(file, word_at(&expected, MARKED), &mut marks);
     let whole = edited & started & scheduled & ended & marked.whole & marked.distinct;
     let supported = is_supported(configuration, &given, &expected);
-    let records = first_records(&schedule, count);
     let configured = configuration_of(configuration);
-    let runs = runs_of(
-        configured,
-        image_for(configured, &image),
-        &given,
-        records,
-        &expected,
-        &marks,
-    );
-    if whole & supported & all_agree(runs) {
+    let run = Run {
+        configuration: configured,
+        image: image_for(configured, &image),
+        state: state_of(&given[START..RECORDS]),
+        records: first_records(&schedule, count),
+        expected: &expected,
+        marks: &marks,
+    };
+    let agreements = run.agreements();
+    if whole && supported && agreements.are_full() {
         return Ok(Case::Same);
     }
-    if test_support::tells(rt, counts)? {
-        tell(rt, whole, supported, runs)?;
+    if counts.tells(rt)? {
+        tell(rt, whole, supported, agreements)?;
     }
     Ok(Case::Differs)
 }
 
-fn run_case(rt: &impl Print, file: &mut impl Read, counts: Counts) -> io::Result<Case> {
+fn run_case(rt: &impl Print, file: &mut impl Read, counts: Counts) -> io::Result<Option<Case>> {
     let mut configuration: ConfigurationBytes = [0; CONFIGURATION_LENGTH];
     if test_support::read_full(file, &mut configuration) == 0 {
-        return Ok(Case::End);
+        return Ok(None);
     }
-    compare(rt, file, &configuration, counts)
-}
-
-fn run_cases(rt: &(impl Files + Print + Eprint)) -> io::Result<()> {
-    let mut file = test_support::open(rt, b"runs.bin")?;
-    let mut counts = test_support::start();
-    while counts.left > 0 {
-        counts = test_support::counted(counts, run_case(rt, &mut file, counts)?);
-    }
-    test_support::finish(rt, file, counts)
+    Ok(Some(compare(rt, file, &configuration, counts)?))
 }
 
 // Prints the number, the steps and the word of 0100H that one NOP leaves with a map of so many words, at most one too many.
@@ -268,17 +249,19 @@ fn try_words(rt: &impl Print, words: usize) -> io::Result<()> {
         );
         println!(rt;
             "{words} words: {}, steps {}, marks {}",
-            ran.stop, ran.steps, map[4]
+            ran.stop.map_or(0, u8::from),
+            ran.steps,
+            map[4]
         )?;
     }
     Ok(())
 }
 
 // Prints the numbers of a step and of a run on a part with an image of so many bytes, at most 4096.
-fn try_image(rt: &impl Print, name: &[u8], profile: Profile, length: usize) -> io::Result<()> {
+fn try_image(rt: &impl Print, name: &str, profile: Profile, length: usize) -> io::Result<()> {
     let image: Image = [255; IMAGE_4K];
     let configuration = Configuration {
-        profile: profile,
+        profile,
         entry_cost: 0,
     };
     let rec = [0u8; RECORD_LENGTH];
@@ -286,28 +269,27 @@ fn try_image(rt: &impl Print, name: &[u8], profile: Profile, length: usize) -> i
         let part = &image[0..length];
         let stepped = machine::step(configuration, part, machine::reset(), &rec);
         let ran = machine::run(configuration, part, machine::reset(), &[]);
-        print(rt, name)?;
         println!(rt;
-            " part, image of {length}: step {}, empty run {}",
-            stepped.stop, ran.stop
+            "{name} part, image of {length}: step {}, empty run {}",
+            stepped.err().map_or(0, u8::from),
+            ran.stop.map_or(0, u8::from)
         )?;
     }
     Ok(())
 }
 
-fn try_images(rt: &impl Print) -> io::Result<()> {
-    try_image(rt, b"4K", Profile::Rom4K, IMAGE_4K)?;
-    try_image(rt, b"4K", Profile::Rom4K, IMAGE_2K)?;
-    try_image(rt, b"2K", Profile::Rom2K, IMAGE_2K)?;
-    try_image(rt, b"2K", Profile::Rom2K, IMAGE_4K)?;
-    try_image(rt, b"2K", Profile::Rom2K, IMAGE_2K - 1)
-}
-
 fn main(rt: HostRuntime) -> io::Result<()> {
-    try_images(&rt)?;
-    try_words(&rt, 0)?;
-    try_words(&rt, WORDS - 1)?;
-    try_words(&rt, WORDS)?;
-    try_words(&rt, WORDS + 1)?;
-    run_cases(&rt)
+    for (name, profile, length) in [
+        ("4K", Profile::Rom4K, IMAGE_4K),
+        ("4K", Profile::Rom4K, IMAGE_2K),
+        ("2K", Profile::Rom2K, IMAGE_2K),
+        ("2K", Profile::Rom2K, IMAGE_4K),
+        ("2K", Profile::Rom2K, IMAGE_2K - 1),
+    ] {
+        try_image(&rt, name, profile, length)?;
+    }
+    for words in [0, WORDS - 1, WORDS, WORDS + 1] {
+        try_words(&rt, words)?;
+    }
+    test_support::run_cases(&rt, b"runs.bin", |file, counts| run_case(&rt, file, counts))
 }

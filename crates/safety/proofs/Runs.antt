@@ -8,7 +8,7 @@ use Rattle.base.specs.Formula.{eqb_yes}
 use Rattle.base.specs.Lengths.{record_length}
 use Rattle.base.specs.Parts.{Part}
 use Rattle.semantics.specs.declared.State.{State}
-use Rattle.semantics.specs.declared.Ran.{Ran}
+use Rattle.semantics.specs.Left.{Ran}
 use Rattle.semantics.specs.Run.{record_at, run_from}
 use Rattle.certificate.specs.Layout.{Certificate}
 use Rattle.safety.proofs.ByteLaws.{take_bytes, drop_bytes}

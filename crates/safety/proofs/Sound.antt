@@ -28,7 +28,7 @@ use Rattle.action.specs.Action.{action_of}
 use Rattle.semantics.specs.declared.Mode.{Mode}
 use Rattle.semantics.specs.declared.Mode.TheVariants.{Running, Idle, Stopped}
 use Rattle.semantics.specs.declared.State.{State}
-use Rattle.semantics.specs.declared.Stepped.{Stepped}
+use Rattle.semantics.specs.Left.{Stepped}
 use Rattle.semantics.specs.Operands.{sp_of}
 use Rattle.semantics.specs.Execute.{Executed, execute_of}
 use Rattle.semantics.specs.Step.{Acted, requested, entry_due, behind, moved_to, idle_cycles, finish_of, enter_of}

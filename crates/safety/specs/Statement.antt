@@ -20,7 +20,7 @@ use Rattle.action.specs.Action.{action_of}
 use Rattle.semantics.specs.declared.Mode.{Mode}
 use Rattle.semantics.specs.declared.Mode.TheVariants.{Running, Idle, Stopped}
 use Rattle.semantics.specs.declared.State.{State}
-use Rattle.semantics.specs.declared.Stepped.{Stepped}
+use Rattle.semantics.specs.Left.{Stepped}
 use Rattle.semantics.specs.Setup.{Setup}
 use Rattle.semantics.specs.Operands.{place_of, lowered, word_at, sp_of}
 use Rattle.semantics.specs.Execute.{code_address}

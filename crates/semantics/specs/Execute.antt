@@ -22,7 +22,7 @@ use Rattle.action.specs.declared.CarryChange.TheVariants.{Reset, Set, Complement
 use Rattle.action.specs.declared.Action.{Action}
 use Rattle.semantics.specs.declared.Mode.{Mode}
 use Rattle.semantics.specs.declared.Mode.TheVariants.{Running, Idle, Stopped}
-use Rattle.semantics.specs.declared.Next.{Next}
+use Rattle.semantics.specs.Left.{Next}
 use Rattle.semantics.specs.Operands.{place_of, fetch_of, with_flags, lowered, raised, store_top, push_address, word_at, word_mapped, sp_of}
 
 -- the registers, and what is left beside them

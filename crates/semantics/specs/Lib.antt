@@ -1,4 +1,5 @@
 pub mod Execute
+pub mod Left
 pub mod Opened
 pub mod Operands
 pub mod Refusals
@@ -7,3 +8,4 @@ pub mod ResetLaws
 pub mod Run
 pub mod Setup
 pub mod Step
+pub mod Stops

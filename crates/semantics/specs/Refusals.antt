@@ -23,10 +23,8 @@ use Rattle.chip.specs.Registers.{mapped_of, load_of}
 use Rattle.semantics.specs.Setup.{Setup}
 use Rattle.semantics.specs.declared.Mode.{Mode}
 use Rattle.semantics.specs.declared.Mode.TheVariants.{Running, Idle, Stopped}
-use Rattle.semantics.specs.declared.Next.{Next}
+use Rattle.semantics.specs.Left.{Next, Stepped, Ran}
 use Rattle.semantics.specs.declared.State.{State}
-use Rattle.semantics.specs.declared.Stepped.{Stepped}
-use Rattle.semantics.specs.declared.Ran.{Ran}
 use Rattle.semantics.specs.Operands.{place_of, fetch_of, with_flags, lowered, raised, store_top, push_of, push_address, word_at, word_mapped, sp_of, flags_of}
 use Rattle.semantics.specs.Execute.{code_address, Executed, goes_on, in_rom, leaves, binary_of, modify_of, load_into, push_operand, pop_operand, load_code_of, load_code_step_of}
 use Rattle.semantics.specs.Execute.{jump_of, jump_pair_of, call_of, call_pair_of, return_of, interrupt_return_of, carry_of, stop_of, execute_of}

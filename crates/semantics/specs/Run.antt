@@ -5,7 +5,7 @@ use Rattle.base.specs.Choice.{pick}
 use Rattle.base.specs.Lengths.{record_length}
 use Rattle.semantics.specs.Setup.{Setup}
 use Rattle.semantics.specs.declared.State.{State}
-use Rattle.semantics.specs.declared.Ran.{Ran}
+use Rattle.semantics.specs.Left.{Ran}
 use Rattle.semantics.specs.Step.{valid_machine, step_of}
 
 abbrev pub ran : State → ℕ → ℕ → Ran

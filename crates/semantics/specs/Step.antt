@@ -18,7 +18,7 @@ use Rattle.chip.specs.Interrupts.{interrupts_enabled, set_interrupts_of, pending
 use Rattle.semantics.specs.declared.Mode.{Mode}
 use Rattle.semantics.specs.declared.Mode.TheVariants.{Running, Idle, Stopped}
 use Rattle.semantics.specs.declared.State.{State}
-use Rattle.semantics.specs.declared.Stepped.{Stepped}
+use Rattle.semantics.specs.Left.{Stepped}
 use Rattle.semantics.specs.Setup.{Setup}
 use Rattle.semantics.specs.Operands.{push_of, push_address, flags_of}
 use Rattle.semantics.specs.Execute.{Executed, goes_on, execute_of}

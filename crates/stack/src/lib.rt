@@ -1,10 +1,14 @@
 // The stack on registers in place: pushes, and the actions that push or pop.
 // The functions are for the crates above, which make instructions and interrupt entries of them.
+// Whether a register was mapped is a bool, and no `Result`: what follows is done all the same (S`push_address`).
+// The registers and the inputs stay two parameters: with a struct of both, each contract would have to say that the inputs stay, and the definitions
+// take them side by side.
 #![tactic(auto)]
 
 ghost use Rattle.std.specs.Prelude.{◌≡◌};
 ghost use Rattle.semantics.specs.Operands.{lowered, raised, store_top, push_of, push_address};
 ghost use Rattle.semantics.specs.Execute.{push_operand, pop_operand, call_of, call_pair_of, return_of, interrupt_return_of};
+ghost use Rattle.semantics.specs.Stops.{next_of};
 
 use action::Operand;
 use base::{RegAddr, RomAddr, SP_INDEX};
@@ -17,8 +21,7 @@ use semantics::Next;
 fn lower(regs: &mut Registers)
     ensures { regs.new ≡ lowered regs.old }
 {
-    let sp = std::num::wrapping_sub_u8(regs[SP_INDEX], 1);
-    regs[SP_INDEX] = sp;
+    regs[SP_INDEX] = regs[SP_INDEX].wrapping_sub(1);
 }
 
 // SP is raised by k.
@@ -26,8 +29,7 @@ fn lower(regs: &mut Registers)
 fn raise(regs: &mut Registers, k: u8)
     ensures { regs.new ≡ raised regs.old k }
 {
-    let sp = std::num::wrapping_add_u8(regs[SP_INDEX], k);
-    regs[SP_INDEX] = sp;
+    regs[SP_INDEX] = regs[SP_INDEX].wrapping_add(k);
 }
 
 // A write where SP points; whether that is mapped.
@@ -57,16 +59,17 @@ pub fn push_address(regs: &mut Registers, a: RomAddr) -> bool
     ensures regs { regs.new ≡ (push_address regs.old a).regs }
     ensures ok { result ≡ (push_address regs.old a).ok }
 {
-    let low = push(regs, (a.0 % 256) as u8);
-    let high = push(regs, (a.0 / 256) as u8);
-    low & high
+    let [high, low] = a.0.to_be_bytes();
+    let low_ok = push(regs, low);
+    let high_ok = push(regs, high);
+    low_ok & high_ok
 }
 
 // PUSH: SP is lowered, then the operand is read.
 #[tactic(auto, unfolding(semantics::specs::Execute::push_operand))]
 pub fn push_operand(s: Operand, regs: &mut Registers, rec: &Inputs, pc: RomAddr) -> Next
     ensures regs { regs.new ≡ (push_operand s regs.old rec.now pc).regs }
-    ensures next { result ≡ (push_operand s regs.old rec.now pc).next }
+    ensures next { next_of result ≡ (push_operand s regs.old rec.now pc).next }
 {
     lower(regs);
     let q = operands::fetch(regs, rec, s);
@@ -78,13 +81,12 @@ pub fn push_operand(s: Operand, regs: &mut Registers, rec: &Inputs, pc: RomAddr)
 #[tactic(auto, unfolding(semantics::specs::Execute::pop_operand))]
 pub fn pop_operand(d: Operand, regs: &mut Registers, rec: &Inputs, pc: RomAddr) -> Next
     ensures regs { regs.new ≡ (pop_operand d regs.old rec.now pc).regs }
-    ensures next { result ≡ (pop_operand d regs.old rec.now pc).next }
+    ensures next { next_of result ≡ (pop_operand d regs.old rec.now pc).next }
 {
     let p = operands::place_of(regs, rec, d);
     let top = RegAddr(regs[SP_INDEX]);
     let v = chip::load(regs, rec, top);
-    let a = p.addr;
-    chip::store(regs, a, v);
+    chip::store(regs, p.addr, v);
     raise(regs, 1);
     operands::goes_on(p.ok & chip::mapped(top), pc)
 }
@@ -93,7 +95,7 @@ pub fn pop_operand(d: Operand, regs: &mut Registers, rec: &Inputs, pc: RomAddr) 
 #[tactic(auto, unfolding(semantics::specs::Execute::call_of))]
 pub fn call(to: RomAddr, regs: &mut Registers, pc: RomAddr) -> Next
     ensures regs { regs.new ≡ (call_of to regs.old pc).regs }
-    ensures next { result ≡ (call_of to regs.old pc).next }
+    ensures next { next_of result ≡ (call_of to regs.old pc).next }
 {
     operands::goes_on(push_address(regs, pc), to)
 }
@@ -102,7 +104,7 @@ pub fn call(to: RomAddr, regs: &mut Registers, pc: RomAddr) -> Next
 #[tactic(auto, unfolding(semantics::specs::Execute::call_pair_of))]
 pub fn call_pair(p: RegAddr, regs: &mut Registers, rec: &Inputs, pc: RomAddr) -> Next
     ensures regs { regs.new ≡ (call_pair_of p regs.old rec.now pc).regs }
-    ensures next { result ≡ (call_pair_of p regs.old rec.now pc).next }
+    ensures next { next_of result ≡ (call_pair_of p regs.old rec.now pc).next }
 {
     let ok = push_address(regs, pc);
     operands::goes_on(
@@ -115,7 +117,7 @@ pub fn call_pair(p: RegAddr, regs: &mut Registers, rec: &Inputs, pc: RomAddr) ->
 #[tactic(auto, unfolding(semantics::specs::Execute::return_of))]
 pub fn return_from_call(regs: &mut Registers, rec: &Inputs) -> Next
     ensures regs { regs.new ≡ (return_of regs.old rec.now).regs }
-    ensures next { result ≡ (return_of regs.old rec.now).next }
+    ensures next { next_of result ≡ (return_of regs.old rec.now).next }
 {
     let top = RegAddr(regs[SP_INDEX]);
     let to = RomAddr(operands::word_at(regs, rec, top));
@@ -127,7 +129,7 @@ pub fn return_from_call(regs: &mut Registers, rec: &Inputs) -> Next
 #[tactic(auto, unfolding(semantics::specs::Execute::interrupt_return_of))]
 pub fn interrupt_return(names: FlagSet, regs: &mut Registers, rec: &Inputs) -> Next
     ensures regs { regs.new ≡ (interrupt_return_of names regs.old rec.now).regs }
-    ensures next { result ≡ (interrupt_return_of names regs.old rec.now).next }
+    ensures next { next_of result ≡ (interrupt_return_of names regs.old rec.now).next }
 {
     let top = RegAddr(regs[SP_INDEX]);
     let f = chip::load(regs, rec, top);
@@ -135,7 +137,6 @@ pub fn interrupt_return(names: FlagSet, regs: &mut Registers, rec: &Inputs) -> N
     raise(regs, 1);
     let high = RegAddr(regs[SP_INDEX]);
     let t = return_from_call(regs, rec);
-    let to = t.pc;
     interrupts::set_interrupts(regs, true);
-    operands::goes_on(chip::mapped(top) & operands::word_mapped(high), to)
+    operands::goes_on(chip::mapped(top) & operands::word_mapped(high), t.pc)
 }

@@ -6,7 +6,7 @@ use machine_states::{
     CONFIGURATION_LENGTH, STATE_LENGTH, configuration_of, image_for, is_configuration,
     is_supported_state, same_state, state_of,
 };
-use semantics::Stepped;
+use semantics::{State, Stop};
 use std::io;
 use std::io::Read;
 use test_support::{Case, Counts, put};
@@ -32,7 +32,7 @@ const CASE_LENGTH: usize = EXPECTED + STATE_LENGTH;
 fn image_of(vector: &[u8], pc: u16, window: &[u8]) -> [u8; IMAGE_4K] {
     let mut image = [255u8; IMAGE_4K];
     put(&mut image, 0, vector);
-    put(&mut image, pc as usize, window);
+    put(&mut image, usize::from(pc), window);
     image
 }
 
@@ -40,55 +40,51 @@ fn image_of(vector: &[u8], pc: u16, window: &[u8]) -> [u8; IMAGE_4K] {
 fn is_supported(case: &[u8; CASE_LENGTH]) -> bool {
     let bytes = &case[..];
     is_configuration(&bytes[CONFIGURATION..VECTOR])
-        & is_supported_state(&bytes[GIVEN..RECORD])
-        & is_supported_state(&bytes[EXPECTED..CASE_LENGTH])
+        && is_supported_state(&bytes[GIVEN..RECORD])
+        && is_supported_state(&bytes[EXPECTED..])
 }
 
-// The step of a case.
-fn step_of(case: &[u8; CASE_LENGTH]) -> Stepped {
+// The step of a case from the state that it gives.
+fn step_of(case: &[u8; CASE_LENGTH], given: State) -> Result<State, Stop> {
     let bytes = &case[..];
-    let given = state_of(&bytes[GIVEN..RECORD]);
-    let pc = given.pc;
-    let image = image_of(&bytes[VECTOR..WINDOW], pc.0, &bytes[WINDOW..GIVEN]);
+    let image = image_of(&bytes[VECTOR..WINDOW], given.pc.0, &bytes[WINDOW..GIVEN]);
     let configuration = configuration_of(&bytes[CONFIGURATION..VECTOR]);
     let rom = image_for(configuration, &image);
     machine::step(configuration, rom, given, &bytes[RECORD..NUMBER])
 }
 
-// Whether the step of a case leaves what the case expects.
+// Whether the step of a case leaves what the case expects: where it is refused, the state before it.
 fn agrees(case: &[u8; CASE_LENGTH]) -> bool {
     let bytes = &case[..];
     let expected = &bytes[EXPECTED..CASE_LENGTH];
-    let r = step_of(case);
-    let state = r.state;
-    is_supported(case) & (r.stop == case[NUMBER]) & same_state(state, expected)
-}
-
-fn wide(x: u8) -> u64 {
-    x as u64
+    let given = state_of(&bytes[GIVEN..RECORD]);
+    let (state, number) = match step_of(case, given) {
+        Ok(after) => (after, 0),
+        Err(stop) => (given, u8::from(stop)),
+    };
+    is_supported(case) & (number == case[NUMBER]) & same_state(state, expected)
 }
 
 // The next case of the file; one that is cut off differs.
-fn run_case(rt: &impl Print, file: &mut impl Read, counts: Counts) -> io::Result<Case> {
+fn run_case(rt: &impl Print, file: &mut impl Read, counts: Counts) -> io::Result<Option<Case>> {
     let mut case = [0u8; CASE_LENGTH];
     let n = test_support::read_full(file, &mut case);
     if n == 0 {
-        return Ok(Case::End);
+        return Ok(None);
     }
-    if (n == CASE_LENGTH) & agrees(&case) {
-        return Ok(Case::Same);
+    if n == CASE_LENGTH && agrees(&case) {
+        return Ok(Some(Case::Same));
     }
-    if test_support::tells(rt, counts)? {
-        println!(rt; " differs, first byte {:02x}", wide(case[WINDOW]))?;
+    if counts.tells(rt)? {
+        println!(rt; " differs, first byte {:02x}", case[WINDOW])?;
     }
-    Ok(Case::Differs)
+    Ok(Some(Case::Differs))
 }
 
 fn main(rt: HostRuntime) -> io::Result<()> {
-    let mut file = test_support::open(&rt, b"steps.bin")?;
-    let mut counts = test_support::start();
-    while counts.left > 0 {
-        counts = test_support::counted(counts, run_case(&rt, &mut file, counts)?);
-    }
-    test_support::finish(&rt, file, counts)
+    test_support::run_cases(
+        &rt,
+        b"steps.bin",
+        |file, counts| run_case(&rt, file, counts),
+    )
 }

@@ -3,11 +3,8 @@
 
 ghost use Rattle.std.specs.Prelude.{◌≡◌};
 ghost use Rattle.certificate.specs.Summaries.{write_to, binary_value, flag_effect, binary_flags, binary_summary, modify_value, load_summary};
-ghost use Rattle.certificate.specs.Summaries.{code_access, onward, summary_of, reaching as reaching_of};
-ghost use Rattle.certificate.specs.Layout.{certificate_of};
-ghost use Rattle.safety.specs.CodeRange.{load_range};
+ghost use Rattle.certificate.specs.Summaries.{code_access, summary_of};
 ghost use Rattle.alu.specs.Operations.{stores};
-ghost use Rattle.isa.specs.declared.Alu.TheVariants.{And, Cp};
 ghost use Rattle.certificate.specs.declared.NewValue.TheVariants.{Unknown, Within};
 ghost use Rattle.certificate.specs.declared.StackEffect.TheVariants.{Same, Push, Pop};
 
@@ -38,50 +35,58 @@ fn reading(s: Operand) -> Access
     }
 }
 
-// A summary that stores and reads operands; control goes behind the instruction.
-fn moving(w: Write, f: Access, s: Access, g: FlagEffect, k: StackEffect) -> Summary
-    ensures { result ≡ Rattle.certificate.specs.Summaries.moving w f s g k }
+// Stores, reads and changes nothing; control goes behind the instruction.
+const PLAIN: Summary = Summary {
+    write: Write::Nothing,
+    first: Access::Nothing,
+    second: Access::Nothing,
+    code: CodeAccess::Nothing,
+    flags: FlagEffect::Kept,
+    stack: StackEffect::Same,
+    control: Control::Nothing,
+    flow: Flow::Step(0, RomAddr(0)),
+};
+
+// A summary that stores and reads operands.
+fn moving(
+    write: Write,
+    first: Access,
+    second: Access,
+    flags: FlagEffect,
+    stack: StackEffect,
+) -> Summary
+    ensures { result ≡ Rattle.certificate.specs.Summaries.moving write first second flags stack }
 {
     Summary {
-        write: w,
-        first: f,
-        second: s,
-        code: CodeAccess::Nothing,
-        flags: g,
-        stack: k,
-        control: Control::Nothing,
-        flow: Flow::Step(0, RomAddr(0)),
+        write,
+        first,
+        second,
+        flags,
+        stack,
+        ..PLAIN
     }
 }
 
-fn reaching(w: Write, c: CodeAccess, g: FlagEffect) -> Summary
-    ensures { result ≡ reaching_of w c g }
+fn reaching(write: Write, code: CodeAccess, flags: FlagEffect) -> Summary
+    ensures { result ≡ Rattle.certificate.specs.Summaries.reaching write code flags }
 {
     Summary {
-        write: w,
-        first: Access::Nothing,
-        second: Access::Nothing,
-        code: c,
-        flags: g,
-        stack: StackEffect::Same,
-        control: Control::Nothing,
-        flow: Flow::Step(0, RomAddr(0)),
+        write,
+        code,
+        flags,
+        ..PLAIN
     }
 }
 
 // A summary of control alone.
-fn controlling(g: FlagEffect, c: Control, to: Flow) -> Summary
-    ensures { result ≡ Rattle.certificate.specs.Summaries.controlling g c to }
+fn controlling(flags: FlagEffect, control: Control, flow: Flow) -> Summary
+    ensures { result ≡ Rattle.certificate.specs.Summaries.controlling flags control flow }
 {
     Summary {
-        write: Write::Nothing,
-        first: Access::Nothing,
-        second: Access::Nothing,
-        code: CodeAccess::Nothing,
-        flags: g,
-        stack: StackEffect::Same,
-        control: c,
-        flow: to,
+        flags,
+        control,
+        flow,
+        ..PLAIN
     }
 }
 
@@ -97,40 +102,18 @@ fn into(d: Operand, s: Summary) -> Summary
     ensures { result ≡ Rattle.certificate.specs.Summaries.into d s }
 {
     match d {
-        Operand::Register(_) => s,
-        Operand::Indirect(_, _) => s,
+        Operand::Register(_) | Operand::Indirect(_, _) => s,
         Operand::Immediate(_) => forbidden(),
     }
 }
 
 // AND with a number gives at most that number.
-fn and_value(s: Operand) -> NewValue
-    ensures { result ≡ binary_value And s }
-{
-    match s {
-        Operand::Immediate(n) => NewValue::Within(Range {
-            least: 0,
-            greatest: n,
-        }),
-        Operand::Register(_) => NewValue::Unknown,
-        Operand::Indirect(_, _) => NewValue::Unknown,
-    }
-}
-
 fn binary_value(op: Alu, s: Operand) -> NewValue
     ensures { result ≡ binary_value op s }
 {
-    match op {
-        Alu::And => and_value(s),
-        Alu::Add => NewValue::Unknown,
-        Alu::Adc => NewValue::Unknown,
-        Alu::Sub => NewValue::Unknown,
-        Alu::Sbc => NewValue::Unknown,
-        Alu::Or => NewValue::Unknown,
-        Alu::Tcm => NewValue::Unknown,
-        Alu::Tm => NewValue::Unknown,
-        Alu::Cp => NewValue::Unknown,
-        Alu::Xor => NewValue::Unknown,
+    match (op, s) {
+        (Alu::And, Operand::Immediate(greatest)) => NewValue::Within(Range { least: 0, greatest }),
+        _ => NewValue::Unknown,
     }
 }
 
@@ -142,34 +125,12 @@ fn flag_effect(names: FlagSet, g: FlagEffect) -> FlagEffect
 }
 
 // `CP cell,#k` (A6H) leaves a compare.
-fn compare_flags(d: Operand, s: Operand) -> FlagEffect
-    ensures { result ≡ binary_flags Cp d s }
-{
-    match d {
-        Operand::Register(a) => match s {
-            Operand::Immediate(k) => FlagEffect::Compared(a, k),
-            Operand::Register(_) => FlagEffect::Changed,
-            Operand::Indirect(_, _) => FlagEffect::Changed,
-        },
-        Operand::Indirect(_, _) => FlagEffect::Changed,
-        Operand::Immediate(_) => FlagEffect::Changed,
-    }
-}
-
 fn binary_flags(op: Alu, d: Operand, s: Operand) -> FlagEffect
     ensures { result ≡ binary_flags op d s }
 {
-    match op {
-        Alu::Cp => compare_flags(d, s),
-        Alu::Add => FlagEffect::Changed,
-        Alu::Adc => FlagEffect::Changed,
-        Alu::Sub => FlagEffect::Changed,
-        Alu::Sbc => FlagEffect::Changed,
-        Alu::Or => FlagEffect::Changed,
-        Alu::And => FlagEffect::Changed,
-        Alu::Tcm => FlagEffect::Changed,
-        Alu::Tm => FlagEffect::Changed,
-        Alu::Xor => FlagEffect::Changed,
+    match (op, d, s) {
+        (Alu::Cp, Operand::Register(a), Operand::Immediate(k)) => FlagEffect::Compared(a, k),
+        _ => FlagEffect::Changed,
     }
 }
 
@@ -191,14 +152,11 @@ fn modify_value(op: Unary) -> NewValue
 {
     match op {
         Unary::Dec => NewValue::OneLess,
-        Unary::Rlc => NewValue::Unknown,
         Unary::Inc => NewValue::OneMore,
-        Unary::Com => NewValue::Unknown,
-        Unary::Rl => NewValue::Unknown,
         Unary::Clr => NewValue::Number(0),
-        Unary::Rrc => NewValue::Unknown,
-        Unary::Sra => NewValue::Unknown,
-        Unary::Rr => NewValue::Unknown,
+        Unary::Rlc | Unary::Com | Unary::Rl | Unary::Rrc | Unary::Sra | Unary::Rr => {
+            NewValue::Unknown
+        }
     }
 }
 
@@ -244,22 +202,20 @@ fn load_from(w: Write, s: Access, g: FlagEffect) -> Summary
 fn load_summary(d: Operand, s: Operand, g: FlagEffect) -> Summary
     ensures { result ≡ load_summary d s g }
 {
-    match d {
-        Operand::Register(a) => match s {
-            Operand::Immediate(n) => load_number(a, n, g),
-            Operand::Register(b) => load_from(
-                Write::Register(a, NewValue::CopyOf(b)),
-                Access::Register(b),
-                g,
-            ),
-            Operand::Indirect(p, x) => load_from(
-                Write::Register(a, NewValue::Unknown),
-                Access::Pointed(p, x),
-                g,
-            ),
-        },
-        Operand::Indirect(q, y) => load_from(Write::Pointed(q, y), reading(s), g),
-        Operand::Immediate(_) => forbidden(),
+    match (d, s) {
+        (Operand::Register(a), Operand::Immediate(n)) => load_number(a, n, g),
+        (Operand::Register(a), Operand::Register(b)) => load_from(
+            Write::Register(a, NewValue::CopyOf(b)),
+            Access::Register(b),
+            g,
+        ),
+        (Operand::Register(a), Operand::Indirect(p, x)) => load_from(
+            Write::Register(a, NewValue::Unknown),
+            Access::Pointed(p, x),
+            g,
+        ),
+        (Operand::Indirect(q, y), _) => load_from(Write::Pointed(q, y), reading(s), g),
+        (Operand::Immediate(_), _) => forbidden(),
     }
 }
 
@@ -268,9 +224,9 @@ fn short_access(p: RegAddr, x: u8) -> CodeAccess
     ensures { result ≡ code_access (CodeAddress.Short p x) }
 {
     if x < 128 {
-        return CodeAccess::Pair(p, x as u16, 0);
+        return CodeAccess::Pair(p, u16::from(x), 0);
     }
-    CodeAccess::Pair(p, 0, 256 - x as u16)
+    CodeAccess::Pair(p, 0, 256 - u16::from(x))
 }
 
 fn code_access(c: CodeAddress) -> CodeAccess
@@ -291,20 +247,6 @@ fn switching(on: bool) -> Control
     } else {
         Control::Disable
     }
-}
-
-// A summary of control alone that goes somewhere.
-fn going(to: Flow, g: FlagEffect) -> Summary
-    ensures { result ≡ Rattle.certificate.specs.Summaries.controlling g Control.Nothing to }
-{
-    controlling(g, Control::Nothing, to)
-}
-
-// A summary of an instruction that does no more than change the flags or the interrupts.
-fn plain(g: FlagEffect, c: Control) -> Summary
-    ensures { result ≡ Rattle.certificate.specs.Summaries.controlling g c onward }
-{
-    controlling(g, c, Flow::Step(0, RomAddr(0)))
 }
 
 fn push_summary(s: Operand, g: FlagEffect) -> Summary
@@ -335,42 +277,18 @@ fn operation_summary(op: Alu, d: Operand, s: Operand, names: FlagSet) -> Summary
     into(d, binary_summary(alu::stores(op), op, d, s, names))
 }
 
-// LDC at a: register d gets a byte of those that the claims let it reach.
-fn load_code(
-    image: &[u8],
-    cert: &[u8],
-    a: RomAddr,
-    d: RegAddr,
-    c: CodeAddress,
-    g: FlagEffect,
-) -> Summary
-    ensures { result ≡ reaching_of (Write.Register d (Within (load_range (certificate_of cert.now) image.now a.0 (code_access c)))) (code_access c) g }
+// LDC: register d gets a byte of those that can be loaded from there.
+fn load_code(d: RegAddr, from: CodeAccess, loaded: Range, g: FlagEffect) -> Summary
+    ensures { result ≡ Rattle.certificate.specs.Summaries.reaching (Write.Register d (Within loaded)) from g }
 {
-    let from = code_access(c);
-    let q = code_range::load_range(image, cert, a, from);
-    reaching(Write::Register(d, NewValue::Within(q)), from, g)
+    reaching(Write::Register(d, NewValue::Within(loaded)), from, g)
 }
 
-// LDCI and LDCD at a: the same, and pair p is counted on.
-fn load_code_step(
-    image: &[u8],
-    cert: &[u8],
-    a: RomAddr,
-    d: RegAddr,
-    p: RegAddr,
-    g: FlagEffect,
-) -> Summary
-    ensures { result ≡ reaching_of (Write.RegisterAndPair d (load_range (certificate_of cert.now) image.now a.0 (CodeAccess.Pair p 0 0)) p) (CodeAccess.Pair p 0 0) g }
-{
-    let from = CodeAccess::Pair(p, 0, 0);
-    let q = code_range::load_range(image, cert, a, from);
-    reaching(Write::RegisterAndPair(d, q, p), from, g)
-}
-
-// The effect summary of an action at a and the flags that it names.
+// The effect summary of an action and the flags that it names; load gives the range of the bytes that LDC, LDCI and LDCD can load.
 #[tactic(auto, unfolding(certificate::specs::Summaries::summary_of))]
-pub fn summary_of(image: &[u8], cert: &[u8], a: RomAddr, action: Action, names: FlagSet) -> Summary
-    ensures { result ≡ summary_of (load_range (certificate_of cert.now) image.now a.0) action names }
+pub fn summary_of<F: Fn(CodeAccess) -> Range>(load: F, action: Action, names: FlagSet) -> Summary
+    requires { F.IsAlwaysCallable load }
+    ensures { (l : _) → ((c : _) (r : _) → F.post load c r → r ≡ l c) → result ≡ summary_of l action names }
 {
     let g = flag_effect(names, FlagEffect::Changed);
     match action {
@@ -379,19 +297,21 @@ pub fn summary_of(image: &[u8], cert: &[u8], a: RomAddr, action: Action, names: 
         Action::Load(d, s) => load_summary(d, s, g),
         Action::Push(s) => push_summary(s, g),
         Action::Pop(d) => pop_summary(d, g),
-        Action::LoadCode(d, c) => load_code(image, cert, a, d, c, g),
-        Action::LoadCodeStep(d, p, _) => load_code_step(image, cert, a, d, p, g),
-        Action::External => forbidden(),
-        Action::Jump(cc, to) => going(Flow::Step(cc, to), g),
-        Action::JumpPair(_) => forbidden(),
-        Action::Call(to) => going(Flow::Call(to), g),
-        Action::CallPair(_) => forbidden(),
-        Action::Return => going(Flow::Return, g),
-        Action::InterruptReturn => going(Flow::InterruptReturn, g),
-        Action::Carry(_) => plain(g, Control::Nothing),
-        Action::Interrupts(on) => plain(g, switching(on)),
-        Action::Idle => plain(g, Control::Wait),
-        Action::Stop => forbidden(),
-        Action::Nop => plain(g, Control::Nothing),
+        Action::LoadCode(d, c) => {
+            let from = code_access(c);
+            load_code(d, from, load(from), g)
+        }
+        Action::LoadCodeStep(d, p, _) => {
+            let from = CodeAccess::Pair(p, 0, 0);
+            reaching(Write::RegisterAndPair(d, load(from), p), from, g)
+        }
+        Action::Jump(cc, to) => controlling(g, Control::Nothing, Flow::Step(cc, to)),
+        Action::Call(to) => controlling(g, Control::Nothing, Flow::Call(to)),
+        Action::Return => controlling(g, Control::Nothing, Flow::Return),
+        Action::InterruptReturn => controlling(g, Control::Nothing, Flow::InterruptReturn),
+        Action::Interrupts(on) => controlling(g, switching(on), PLAIN.flow),
+        Action::Idle => controlling(g, Control::Wait, PLAIN.flow),
+        Action::Carry(_) | Action::Nop => controlling(g, Control::Nothing, PLAIN.flow),
+        Action::External | Action::JumpPair(_) | Action::CallPair(_) | Action::Stop => forbidden(),
     }
 }

@@ -1,7 +1,8 @@
 -- Numbers of decimal digits, and what the arguments of a benchmark program mean.
 -- Assumes nothing.
-use Rattle.std.specs.Prelude.{◌≡◌, ℕ, ◌+◌, ◌*◌, ◌%◌, ◌<◌, List, [], ◌∷◌, length, drop, ◌==◌, slice_index}
+use Rattle.std.specs.Prelude.{◌≡◌, ℕ, ◌+◌, ◌*◌, ◌%◌, ◌<◌, List, length, drop, ◌==◌, slice_index}
 use Rattle.std.proofs.Common.{add-one, drop-cons}
+use Rattle.std.specs.List.{fold}
 use Rattle.base.specs.Choice.{pick}
 use Rattle.test_support.specs.declared.Rows.{Rows}
 
@@ -11,8 +12,7 @@ with_digit n d = n % 1000000000 * 10 + d % 16
 
 -- the number that n and the digits behind it give
 abbrev pub number_from : ℕ → List ℕ → ℕ
-number_from n [] = n
-number_from n (d ∷ text) = number_from (with_digit n d) text
+number_from n text = fold with_digit n text
 
 unfoldable pub number_of : List ℕ → ℕ
 number_of text = number_from 0 text

@@ -1,6 +1,6 @@
 -- A hexadecimal digit's value. Numbers in a list of bytes, high byte first; a byte past the end counts as 0.
 -- Assumes nothing.
-use Rattle.std.specs.Prelude.{◌≡◌, ℕ, ◌+◌, ◌-◌, ◌*◌, ◌≤◌, true, ◌&&◌, List, length, nat_le, slice_index}
+use Rattle.std.specs.Prelude.{◌≡◌, ℕ, ◌+◌, ◌-◌, ◌*◌, ◌≤◌, true, ◌&&◌, Option, Some, None, List, length, nat_le, slice_index}
 use Rattle.std.proofs.Common.{arith, leb-true}
 use Rattle.std.proofs.Math.ListN.{get_or-eq_default}
 use Rattle.base.specs.Choice.{pick}
@@ -13,6 +13,11 @@ hex_value b =
     (pick (nat_le 0x41 b && nat_le b 0x46) (b - 0x41 + 10)
     (pick (nat_le 0x61 b && nat_le b 0x66) (b - 0x61 + 10)
     16))
+
+-- the number of a digit's value, 16 where there is none
+abbrev pub digit_number : Option ℕ → ℕ
+digit_number None = 16
+digit_number (Some n) = n
 
 -- a number between two others is at least the first
 pub at_least : (l h b : ℕ) → (nat_le l b && nat_le b h) ≡ true → l ≤ b

@@ -1,18 +1,18 @@
-// What the test programs and the benchmarks share: bytes into a slice and out of it, hexadecimal and decimal digits, lines, printing, the cases of a vector file, and
+// What the test programs and the benchmarks share: bytes into a slice and out of it, hexadecimal and decimal digits, lines, the cases of a vector file, and
 // the arguments of a benchmark. In a vector file numbers are high byte first, and cases follow one another up to the file's end.
 #![tactic(auto)]
 
-ghost use Rattle.std.specs.Prelude.{◌≡◌, ◌+◌, ◌-◌, ◌*◌, ◌%◌, ◌≤◌, length, slice_set};
+ghost use Rattle.std.specs.Prelude.{◌≡◌, ◌+◌, ◌*◌, ◌%◌, ◌<◌, ◌≤◌, IfSome, length, slice_set};
 ghost use Rattle.std.proofs.lemmas.List.Edits.{sets};
 ghost use Rattle.test_support.specs.Arguments.{with_digit, number_of, rows_of};
-ghost use Rattle.test_support.specs.Numbers.{hex_value, word_at, long_at};
+ghost use Rattle.test_support.specs.Numbers.{hex_value, digit_number, word_at, long_at};
 ghost use Rattle.test_support.specs.Edits.{Edited};
-ghost use Rattle.test_support.specs.Counts.{start_of, counted_of};
+ghost use Rattle.test_support.specs.Counts.{counted_of};
 
-use base::byte_at;
-use std::io;
+use base::{byte_at, word};
 use std::io::{Eprint, Read};
 use std::rt::Files;
+use std::{fmt, io};
 
 // How many differences are printed.
 const PRINTED: u64 = 5;
@@ -30,56 +30,33 @@ pub fn store(bytes: &mut [u8], at: usize, byte: u8)
 pub fn put(bytes: &mut [u8], at: usize, part: &[u8])
     ensures { bytes.new ≡ sets bytes.old at part.now }
 {
-    let mut next = at;
-    let mut i = 0;
-    while i < part.len() {
-        if bytes.len() <= next {
-            return;
-        }
-        bytes[next] = part[i];
-        next += 1;
-        i += 1;
+    if at < bytes.len() {
+        let n = part.len().min(bytes.len() - at);
+        bytes[at..at + n].copy_from_slice(&part[..n]);
     }
 }
 
-// Two bytes as a number.
-pub fn word(high: u8, low: u8) -> u16
-    ensures { result ≡ high * 256 + low }
+// The value of a hexadecimal digit.
+pub fn hex_value(b: u8) -> Option<u8>
+    ensures value { digit_number result ≡ hex_value b }
+    ensures bound { IfSome result (λ n. n < 16) }
 {
-    (high as u16) * 256 + (low as u16)
-}
-
-// Two words as a number.
-pub fn long(high: u16, low: u16) -> u32
-    ensures { result ≡ high * 65536 + low }
-{
-    (high as u32) * 65536 + (low as u32)
-}
-
-// The value of a hexadecimal digit, 16 of another character.
-pub fn hex_value(b: u8) -> u8
-    ensures { result ≡ hex_value b }
-{
-    if (b'0' <= b) & (b <= b'9') {
-        return b - b'0';
+    match b {
+        b'0'..=b'9' => Some(b - b'0'),
+        b'A'..=b'F' => Some(b - b'A' + 10),
+        b'a'..=b'f' => Some(b - b'a' + 10),
+        _ => None,
     }
-    if (b'A' <= b) & (b <= b'F') {
-        return b - b'A' + 10;
-    }
-    if (b'a' <= b) & (b <= b'f') {
-        return b - b'a' + 10;
-    }
-    16
 }
 
 // The byte of two hexadecimal digits; another character counts as 0.
 pub fn hex_byte(high: u8, low: u8) -> u8
     ensures { result ≡ hex_value high % 16 * 16 + hex_value low % 16 }
 {
-    hex_value(high) % 16 * 16 + hex_value(low) % 16
+    hex_value(high).unwrap_or(0) * 16 + hex_value(low).unwrap_or(0)
 }
 
-// The number of two bytes from a place on; a byte past the end counts as 0.
+// The number of two bytes from a place on; a byte past the end counts as 0. Not that of `entries`, which asks for a bound on the place.
 pub fn word_at(s: &[u8], at: usize) -> u16
     ensures { result ≡ word_at s.now at }
 {
@@ -96,47 +73,12 @@ pub fn long_at(s: &[u8], at: usize) -> u32
     if s.len() <= at {
         return 0;
     }
-    if s.len() <= at + 1 {
-        return long(word_at(s, at), 0);
-    }
-    long(word_at(s, at), word_at(s, at + 2))
-}
-
-pub fn print(rt: &impl Print, text: &[u8]) -> io::Result<()> {
-    rt.write_all(text)
-}
-
-// The next dot from a place on, or the end.
-fn end_of(text: &[u8], from: usize) -> usize {
-    let mut at = from;
-    while at < text.len() {
-        if text[at] == b'.' {
-            return at;
-        }
-        at += 1;
-    }
-    at
-}
-
-// Prints what stands from a place on up to a dot.
-pub fn print_field(rt: &impl Print, text: &[u8], at: usize) -> io::Result<()> {
-    let end = end_of(text, at);
-    if end <= text.len() {
-        if at <= end {
-            print(rt, &text[at..end])?;
-        }
-    }
-    Ok(())
-}
-
-// In decimal.
-pub fn print_number(rt: &impl Print, n: u64) -> io::Result<()> {
-    print!(rt; "{n}")
-}
-
-// In hexadecimal, with this many digits.
-pub fn print_hex(rt: &impl Print, n: u64, digits: usize) -> io::Result<()> {
-    print!(rt; "{n:0digits$x}")
+    u32::from_be_bytes([
+        byte_at(s, at),
+        byte_at(s, at + 1),
+        byte_at(s, at + 2),
+        byte_at(s, at + 3),
+    ])
 }
 
 // A vector file; one that could not be opened has no bytes.
@@ -177,149 +119,125 @@ pub fn read_full(file: &mut impl Read, buffer: &mut [u8]) -> usize
     reading::read_full(file, buffer)
 }
 
-// The next byte of a file, 0 at its end.
+// The next byte of a file, 0 at its end: the programs take a byte of 0 and the end alike.
 pub fn read_byte(file: &mut impl Read) -> u8 {
     let mut one = [0u8; 1];
     read_full(file, &mut one);
     one[0]
 }
 
-// Reads the next line of a text, without its LF, up to the file's end or the slice's, and answers its length.
+// Reads the next line of a text, without its LF, up to the file's end or the slice's, and answers its length. By index: the place is the answer.
 pub fn read_line(file: &mut impl Read, line: &mut [u8]) -> usize {
-    let mut n: usize = 0;
-    while n < line.len() {
-        let b = read_byte(file);
-        if (b == 10) | (b == 0) {
-            return n;
+    for n in 0..line.len() {
+        match read_byte(file) {
+            b'\n' | 0 => return n,
+            b => line[n] = b,
         }
-        line[n] = b;
-        n += 1;
     }
-    n
+    line.len()
 }
 
 // Makes the next edit of a file, address 2 and byte 1; whether the file has it all.
+#[tactic(auto, using(crate::specs::Edits::edited_one))]
 fn read_edit(file: &mut impl Read, bytes: &mut [u8]) -> bool
     ensures { Edited bytes.old bytes.new }
 {
     let mut three = [0u8; 3];
     let n = read_full(file, &mut three);
-    store(bytes, word(three[0], three[1]) as usize, three[2]);
+    store(bytes, usize::from(word(three[0], three[1])), three[2]);
     n == 3
 }
 
 // Makes the next edits of a file, count 2 and that many edits; whether the file has them all.
+#[tactic(auto, using(crate::specs::Edits::edited_more))]
 pub fn read_edits(file: &mut impl Read, bytes: &mut [u8]) -> bool
     ensures { Edited bytes.old bytes.new }
 {
     let mut two = [0u8; 2];
     let mut whole = read_full(file, &mut two) == 2;
-    let mut left = word(two[0], two[1]);
-    while left > 0 {
-        whole = read_edit(file, bytes) & whole;
-        left -= 1;
+    for _ in 0..word(two[0], two[1]) {
+        whole &= read_edit(file, bytes);
     }
     whole
 }
 
-// A case of a file: alike, different, or none left.
-#[derive(Clone, Copy)]
+// A case of a file: alike, or different.
+#[derive(Clone, Copy, Debug, PartialEq, Eq)]
 pub enum Case {
     Same,
     Differs,
-    End,
 }
 
-// How many cases were compared, how many of them differ, and how many more may come, 0 at the file's end.
-#[derive(Clone, Copy)]
+// How many cases were compared, and how many of them differ.
+#[derive(Clone, Copy, Default)]
 pub struct Counts {
     pub compared: u64,
     pub differ: u64,
-    pub left: u64,
 }
 
-// No case yet; more may come than any file has.
-pub fn start() -> Counts
-    ensures { result ≡ start_of }
-{
-    Counts {
-        compared: 0,
-        differ: 0,
-        left: u64::MAX,
+impl Counts {
+    // One case more.
+    pub fn counted(self, case: Case) -> Counts
+        ensures { result ≡ counted_of self case }
+    {
+        Counts {
+            compared: self.compared.wrapping_add(1),
+            differ: match case {
+                Case::Same => self.differ,
+                Case::Differs => self.differ.wrapping_add(1),
+            },
+        }
     }
-}
 
-fn less(n: u64) -> u64
-    ensures { result ≡ n - 1 }
-{
-    if n == 0 {
-        return 0;
+    // Whether a case that differs is told of: the first few are. The line begins with its number.
+    pub fn tells(self, rt: &impl Print) -> io::Result<bool> {
+        if self.differ >= PRINTED {
+            return Ok(false);
+        }
+        print!(rt; "case {}", self.compared)?;
+        Ok(true)
     }
-    n - 1
-}
-
-// One case more.
-pub fn counted(c: Counts, case: Case) -> Counts
-    ensures value { result ≡ counted_of c case }
-    ensures left_bound { result.left ≤ c.left - 1 }
-{
-    match case {
-        Case::Same => Counts {
-            compared: std::num::wrapping_add_u64(c.compared, 1),
-            differ: c.differ,
-            left: less(c.left),
-        },
-        Case::Differs => Counts {
-            compared: std::num::wrapping_add_u64(c.compared, 1),
-            differ: std::num::wrapping_add_u64(c.differ, 1),
-            left: less(c.left),
-        },
-        Case::End => Counts {
-            compared: c.compared,
-            differ: c.differ,
-            left: 0,
-        },
-    }
-}
-
-// Whether a case that differs is told of: the first few are. The line begins with its number.
-pub fn tells(rt: &impl Print, c: Counts) -> io::Result<bool> {
-    if c.differ >= PRINTED {
-        return Ok(false);
-    }
-    print!(rt; "case {}", c.compared)?;
-    Ok(true)
 }
 
 // The last line of a test program.
-pub fn print_counts(rt: &impl Print, compared: u64, differ: u64) -> io::Result<()> {
-    println!(rt; "{compared} compared, {differ} differ")
+impl fmt::Display for Counts {
+    fn fmt<W: fmt::Write>(&self, f: &mut fmt::Formatter<W>) -> fmt::Result {
+        write!(f, "{} compared, {} differ", self.compared, self.differ)
+    }
 }
 
-// Closes a vector file, and prints the last line.
-pub fn finish<F: Drop>(rt: &impl Print, file: VectorFile<F>, c: Counts) -> io::Result<()> {
+// Runs the cases of a vector file, and prints how many were compared and how many of them differ. A call of `run_case` reads the next case and compares it, and
+// answers `None` at the file's end.
+pub fn run_cases<R: Files + Print + Eprint, F>(rt: &R, name: &[u8], run_case: F) -> io::Result<()>
+where
+    F: Fn(&mut VectorFile<R::File>, Counts) -> io::Result<Option<Case>>,
+    requires { F.IsAlwaysCallable run_case }
+{
+    let mut file = open(rt, name)?;
+    let mut counts = Counts::default();
+    for _ in 0..u64::MAX {
+        let Some(case) = run_case(&mut file, counts)? else {
+            break;
+        };
+        counts = counts.counted(case);
+    }
     drop(file);
-    print_counts(rt, c.compared, c.differ)
+    println!(rt; "{counts}")
 }
 
 // A number with one more decimal digit behind it, of ten digits at most.
 pub fn with_digit(n: u64, digit: u8) -> u64
     ensures { result ≡ with_digit n digit }
 {
-    n % 1000000000 * 10 + (digit % 16) as u64
+    n % 1000000000 * 10 + u64::from(digit % 16)
 }
 
 // The number that decimal digits give, the last ten of them.
+#[tactic(auto, unfolding(crate::specs::Arguments::number_of))]
 pub fn number(text: &[u8]) -> u64
     ensures { result ≡ number_of text.now }
 {
-    let mut n: u64 = 0;
-    let mut i = 0;
-    while i < text.len() {
-        n = with_digit(n, text[i]);
-        i += 1;
-    }
-    n
+    text.iter().copied().fold(0, with_digit)
 }
 
 // The rows from the first to the last.

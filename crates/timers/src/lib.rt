@@ -73,7 +73,7 @@ fn first_match(limit: u8, c: u8) -> u16
     (limit as u16 + 255 - c as u16) % 256 + 1
 }
 
-// Ticks from one match to the next.
+// Ticks from one match to the next. Apart from `first_match`: the definitions are two (S`Counting` `first`, `turn`).
 fn turn_of(limit: u8) -> u16
     ensures { result ≡ turn limit }
 {
@@ -87,7 +87,7 @@ pub struct Passed {
     pub ticks: u16,
 }
 
-// The divider over so many cycles.
+// The divider over so many cycles. Controls, divider and cycles stay parameters, as in S`passed_of` and `timers_after`.
 fn over_cycles(before: Before, divider: u16, cycles: u8) -> Passed
     ensures { result ≡ passed_of before divider cycles }
 {

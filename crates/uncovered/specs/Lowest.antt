@@ -1,14 +1,26 @@
 -- The lowest instruction start of a certificate that a coverage map has not marked (02, request 06): "the lowest unmarked instruction start of a
 -- given certificate is named, or none".
 -- Assumes nothing.
-use Rattle.std.specs.Prelude.{ℕ, ◌<◌, ◌≡◌, ◌≢◌, Bool, true, false, ◌&&◌, not, List, [], ◌∷◌, length, eqb}
+use Rattle.std.specs.Prelude.{ℕ, ◌<◌, ◌≡◌, ◌≢◌, Bool, true, false, ◌&&◌, not, List, [], ◌∷◌, length, eqb, Option, Some, None, Result, Ok, Err}
 use Rattle.base.specs.Addresses.{rom_addr}
 use Rattle.base.specs.Choice.{pick, from}
 use Rattle.base.specs.Lengths.{largest_rom, is_certificate_length}
 use Rattle.certificate.specs.Layout.{Certificate, certificate_of}
 use Rattle.coverage.specs.Map.{marked}
-use Rattle.uncovered.specs.declared.Lowest.{Lowest}
-use Rattle.uncovered.specs.declared.Lowest.TheVariants.{At, AllMarked, Refused}
+use Rattle.base.specs.declared.InvalidArgument.{InvalidArgument}
+use Rattle.base.specs.declared.RomAddr.{RomAddr}
+
+-- the lowest unmarked start; none, where every start is marked; or a refusal, by its number
+pub data Lowest : Type 0 where
+  At : RomAddr → Lowest
+  AllMarked : Lowest
+  Refused : ℕ → Lowest
+
+-- what the call's result tells: the refusal is number 7
+abbrev pub told : Result (Option RomAddr) InvalidArgument → Lowest
+told (Ok (Some a)) = At a
+told (Ok None) = AllMarked
+told (Err e) = Refused 7
 
 -- an instruction start: the entry's routine is not 0, whether or not the certificate would be accepted
 abbrev pub is_start : Certificate → ℕ → Bool

@@ -13,9 +13,8 @@ use Rattle.base.specs.Lengths.{largest_rom, is_certificate_length}
 use Rattle.base.specs.declared.RomAddr.{RomAddr}
 use Rattle.certificate.specs.Layout.{Certificate, certificate_of, certificate_from, part}
 use Rattle.coverage.specs.Map.{marked}
-use Rattle.uncovered.specs.Lowest.{unmarked_start, first_of, lowest_of, LowestStart}
-use Rattle.uncovered.specs.declared.Lowest.{Lowest}
-use Rattle.uncovered.specs.declared.Lowest.TheVariants.{At, AllMarked, Refused}
+use Rattle.uncovered.specs.Lowest.{unmarked_start, first_of, lowest_of, LowestStart, Lowest}
+use Rattle.uncovered.specs.Lowest.Lowest.{At, AllMarked, Refused}
 
 -- a test fails from i up to j
 abbrev Fails : (ℕ → Bool) → ℕ → ℕ → Type 0

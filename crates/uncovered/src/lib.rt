@@ -5,21 +5,13 @@ ghost use Rattle.std.specs.Prelude.{◌≡◌, not, ℕ, ◌+◌, ◌*◌, ◌<�
 ghost use Rattle.base.specs.Addresses.{rom_addr};
 ghost use Rattle.certificate.specs.Layout.{certificate_of};
 ghost use Rattle.coverage.specs.Map.{bit_of};
-ghost use Rattle.uncovered.specs.Lowest.{is_start, lowest_of};
+ghost use Rattle.uncovered.specs.Lowest.{is_start, lowest_of, told};
 
-use base::{RomAddr, byte_at};
+use base::{InvalidArgument, RomAddr, byte_at};
 use coverage::{Map, WORDS};
 
 // The bits of a word of a map.
 const WORD_BITS: u32 = coverage::WORD_BITS as u32;
-
-// The lowest unmarked start; none, where every start is marked; or a refusal by 7.
-#[derive(Clone, Copy)]
-pub enum Lowest {
-    At(RomAddr),
-    AllMarked,
-    Refused(u8),
-}
 
 // The address that a bit of a word of a map stands for.
 fn address(word: usize, bit: u32) -> RomAddr
@@ -44,33 +36,30 @@ fn others(cert: &[u8], word: usize) -> u64
     ensures { (k : ℕ) → k < 64 → bit_of result k ≡ not (is_start (certificate_of cert.now) (64 * word + k)) }
 {
     let mut bits = 0;
-    let mut k = 0;
-    while k < WORD_BITS {
+    for k in 0..WORD_BITS {
         if !is_start(cert, address(word, k)) {
-            bits = bits | (1 << k);
+            bits |= 1 << k;
         }
-        k += 1;
     }
     bits
 }
 
-// The lowest start of a certificate that the map has not marked. A start is an address whose entry's routine is not 0.
+// The lowest start of a certificate that the map has not marked, or none, where every start is marked. A start is an address whose entry's routine is
+// not 0.
 #[tactic(auto)]
-pub fn lowest_unmarked(cert: &[u8], map: &Map) -> Lowest
-    ensures { result ≡ lowest_of cert.now map.now }
+pub fn lowest_unmarked(cert: &[u8], map: &Map) -> Result<Option<RomAddr>, InvalidArgument>
+    ensures { told result ≡ lowest_of cert.now map.now }
 {
     if !base::is_certificate_length(cert.len()) {
-        return Lowest::Refused(7);
+        return Err(InvalidArgument);
     }
-    // Of a slice's words a proof knows that they fit 64 bits.
+    // Of a slice's words a proof knows that they fit 64 bits. By index, which makes the address.
     let map: &[u64] = map;
-    let mut word = 0;
-    while word < WORDS {
+    for word in 0..WORDS {
         let bit = u64::trailing_zeros(!(map[word] | others(cert, word)));
         if bit < WORD_BITS {
-            return Lowest::At(address(word, bit));
+            return Ok(Some(address(word, bit)));
         }
-        word += 1;
     }
-    Lowest::AllMarked
+    Ok(None)
 }

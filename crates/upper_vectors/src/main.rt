@@ -2,27 +2,20 @@
 #![tactic(auto)]
 
 use base::IMAGE_4K;
-use hex_line::Line;
-use hex_upper::Upper;
+use hex_line::Fault;
 use std::io;
 use std::io::Read;
-use std::rt::Files;
-use test_support::{Case, Counts, print, print_number};
+use test_support::{Case, Counts};
 
 // The number of an answer, 0 where the line was converted.
-fn upper_number(answer: Upper) -> u8 {
-    match answer {
-        Upper::Converted => 0,
-        Upper::Refused(fault) => hex_line::number(fault),
-    }
+fn upper_number(answer: Result<(), Fault>) -> u8 {
+    answer.err().map_or(0, u8::from)
 }
 
 // The number by which the reader refuses a line as the first of an image, 0 where it is read.
 fn reader_number(line: &[u8]) -> u8 {
-    match hex_line::check_line(line, IMAGE_4K, hex_line::new_reader()) {
-        Line::Read(_) => 0,
-        Line::Refused(fault) => hex_line::number(fault),
-    }
+    let answer = hex_line::check_line(line, IMAGE_4K, hex_line::new_reader());
+    answer.err().map_or(0, u8::from)
 }
 
 // Prints the reader's number of a line, that of the call, the reader's of the line behind the call, and this line.
@@ -33,8 +26,8 @@ fn convert(rt: &impl Print, line: &mut [u8]) -> io::Result<()> {
         upper_number(hex_upper::upper_line(line)),
         reader_number(line)
     )?;
-    print(rt, line)?;
-    print(rt, b"\n")
+    rt.write_all(line)?;
+    println!(rt; "")
 }
 
 fn example(rt: &impl Print, text: &[u8]) -> io::Result<()> {
@@ -59,44 +52,46 @@ fn compare(file: &mut impl Read, line: &mut [u8], expected: &mut [u8], length: u
     let left = test_support::read_full(file, &mut expected[..length]);
     let answer = upper_number(hex_upper::upper_line(&mut line[..length]));
     let same = line[..length] == expected[..length];
-    same & (answer == number) & (got == length) & (left == length)
+    same && answer == number && got == length && left == length
 }
 
-fn run_case(rt: &impl Print, file: &mut impl Read, counts: Counts) -> io::Result<Case> {
+fn run_case(rt: &impl Print, file: &mut impl Read, counts: Counts) -> io::Result<Option<Case>> {
     let mut two = [0u8; 2];
     if test_support::read_full(file, &mut two) == 0 {
-        return Ok(Case::End);
+        return Ok(None);
     }
     let mut line = [0u8; 65536];
     let mut expected = [0u8; 65536];
-    let length = test_support::word(two[0], two[1]) as usize;
+    let length = usize::from(base::word(two[0], two[1]));
     if compare(file, &mut line, &mut expected, length) {
-        return Ok(Case::Same);
+        return Ok(Some(Case::Same));
     }
-    if test_support::tells(rt, counts)? {
-        print(rt, b" differs\n")?;
+    if counts.tells(rt)? {
+        println!(rt; " differs")?;
     }
-    Ok(Case::Differs)
+    Ok(Some(Case::Differs))
 }
 
-fn run_cases(rt: &(impl Files + Print + Eprint)) -> io::Result<()> {
-    let mut file = test_support::open(rt, b"upper.bin")?;
-    let mut counts = test_support::start();
-    while counts.left > 0 {
-        counts = test_support::counted(counts, run_case(rt, &mut file, counts)?);
-    }
-    test_support::finish(rt, file, counts)
-}
+// Lines that are converted, that are right as they are, and that are refused.
+const EXAMPLES: [&[u8]; 9] = [
+    b":00000001ff",
+    b":020100008fFf6f",
+    b":020100008FFF6F",
+    b":02fff0008fff81", // past the end
+    b":020100008fff6", // cut off
+    b":020100008fff6fg",
+    b":020100008fff6e", // sum
+    b":020100028fff6d", // type
+    b":00000001fe", // not the end line
+];
 
 fn main(rt: HostRuntime) -> io::Result<()> {
-    example(&rt, b":00000001ff")?;
-    example(&rt, b":020100008fFf6f")?;
-    example(&rt, b":020100008FFF6F")?;
-    example(&rt, b":02fff0008fff81")?; // past the end
-    example(&rt, b":020100008fff6")?; // cut off
-    example(&rt, b":020100008fff6fg")?;
-    example(&rt, b":020100008fff6e")?; // sum
-    example(&rt, b":020100028fff6d")?; // type
-    example(&rt, b":00000001fe")?; // not the end line
-    run_cases(&rt)
+    for text in EXAMPLES {
+        example(&rt, text)?;
+    }
+    test_support::run_cases(
+        &rt,
+        b"upper.bin",
+        |file, counts| run_case(&rt, file, counts),
+    )
 }

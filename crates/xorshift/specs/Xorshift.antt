@@ -1,12 +1,12 @@
 -- Schedules by Marsaglia's 32-bit xorshift: a round, the record behind a state, the records from a seed, and the call that fills a buffer with them.
 -- Assumes nothing.
-use Rattle.std.specs.Prelude.{ℕ, zero, suc, ◌*◌, ◌/◌, ◌%◌, ◌^◌, Bool, false, List, [], ◌∷◌, ◌++◌, map, eqb, length}
+use Rattle.std.specs.Prelude.{ℕ, zero, suc, ◌*◌, ◌/◌, ◌%◌, ◌^◌, Bool, false, Result, List, [], ◌∷◌, ◌++◌, map, eqb, length}
 use Rattle.std.specs.Int.Bits.{bit_and, bit_xor}
 use Rattle.base.specs.Choice.{pick, from}
 use Rattle.base.specs.Lengths.{record_length}
-use Rattle.base.specs.Outcome.{Outcome, on_outcome}
+use Rattle.base.specs.Outcome.{Outcome, on_outcome, outcome_by}
 use Rattle.base.specs.Outcome.Outcome.{value, refused}
-use Rattle.xorshift.specs.declared.Filled.{Filled}
+use Rattle.base.specs.declared.InvalidArgument.{InvalidArgument}
 
 -- y ^= y << k, in 32 bits
 abbrev pub xor_left : ℕ → ℕ → ℕ
@@ -48,9 +48,9 @@ unfoldable pub state_after : ℕ → ℕ → ℕ
 state_after zero x = x
 state_after (suc n) x = state_after n (next_state x)
 
-abbrev pub filled_outcome : Filled → Outcome ℕ
-filled_outcome (Filled.State state) = value state
-filled_outcome (Filled.Refused number) = refused number
+-- the state behind the records that were made; or a refusal by 7
+abbrev pub filled_outcome : Result ℕ InvalidArgument → Outcome ℕ
+filled_outcome = outcome_by (λ _. 7)
 
 -- 7 for a seed of 0 or a buffer not a multiple of 8; any other seed and buffer's length are taken
 abbrev pub taken : ℕ → ℕ → Bool

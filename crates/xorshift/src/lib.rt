@@ -5,14 +5,7 @@ ghost use Rattle.std.specs.Prelude.{◌≡◌, ◌++◌, ◌/◌, ◌%◌, ◌�
 ghost use Rattle.base.specs.Lengths.{record_length};
 ghost use Rattle.xorshift.specs.Xorshift.{round, four_bytes, next_state, record_from, state_after, records_from, filled_outcome, taken, fill_answer, fill_buffer};
 
-use base::RECORD_LENGTH;
-
-// The state behind the records that were made; or a refusal by 7.
-#[derive(Clone, Copy)]
-pub enum Filled {
-    State(u32),
-    Refused(u8),
-}
+use base::{InvalidArgument, RECORD_LENGTH};
 
 // The next state: shifts 13 left, 17 right, 5 left.
 #[tactic(auto, unfolding(crate::specs::Xorshift::round))]
@@ -29,10 +22,7 @@ fn write_state(state: u32, out: &mut [u8])
     requires { 4 ≤ length out.old }
     ensures { out.new ≡ four_bytes state ++ drop 4 out.old }
 {
-    out[0] = (state % 256) as u8;
-    out[1] = ((state >> 8) % 256) as u8;
-    out[2] = ((state >> 16) % 256) as u8;
-    out[3] = ((state >> 24) % 256) as u8;
+    out[..4].copy_from_slice(&state.to_le_bytes());
 }
 
 // Writes the record behind a state at the front of a part of the buffer, and answers the state behind it.
@@ -44,7 +34,7 @@ fn write_record(state: u32, out: &mut [u8]) -> u32
     let first = round(state);
     let second = round(first);
     write_state(first, out);
-    out[0] = out[0] & 0x1F;
+    out[0] &= 0x1F;
     write_state(second, &mut out[4..]);
     second
 }
@@ -56,10 +46,9 @@ fn write_records(seed: u32, out: &mut [u8]) -> u32
     ensures out_after { out.new ≡ records_from (length out.old / record_length) seed }
 {
     let mut state = seed;
-    let mut at: usize = 0;
-    while at < out.len() {
-        state = write_record(state, &mut out[at..]);
-        at += RECORD_LENGTH;
+    // No `chunks_exact_mut`: behind its borrow a proof knows the buffer's length and not its bytes.
+    for k in 0..out.len() / RECORD_LENGTH {
+        state = write_record(state, &mut out[k * RECORD_LENGTH..]);
     }
     state
 }
@@ -68,20 +57,18 @@ fn write_records(seed: u32, out: &mut [u8]) -> u32
 fn taken(seed: u32, length: usize) -> bool
     ensures { result ≡ taken seed length }
 {
-    if seed == 0 {
-        return false;
-    }
-    length % RECORD_LENGTH == 0
+    seed != 0 && length % RECORD_LENGTH == 0
 }
 
 // Fills a lent buffer with the records that a seed gives, and answers the state behind them, which is the seed of the records that follow.
 // A seed of 0 and a length that is no multiple of 8 are refused by 7, and the buffer is as it was.
-pub fn fill(seed: u32, out: &mut [u8]) -> Filled
+#[tactic(auto, unfolding(crate::specs::Xorshift::fill_answer, crate::specs::Xorshift::fill_buffer))]
+pub fn fill(seed: u32, out: &mut [u8]) -> Result<u32, InvalidArgument>
     ensures result_value { filled_outcome result ≡ fill_answer seed (length out.old) }
     ensures out_after { out.new ≡ fill_buffer seed out.old }
 {
     if !taken(seed, out.len()) {
-        return Filled::Refused(7);
+        return Err(InvalidArgument);
     }
-    Filled::State(write_records(seed, out))
+    Ok(write_records(seed, out))
 }

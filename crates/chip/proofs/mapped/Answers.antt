@@ -6,5 +6,5 @@ use Rattle.chip.proofs.mapped.Goals as goal
 pub returns-then-n-lt208 : goal.returns-then-n-lt208
 returns-then-n-lt208 c = rw (sym (mapped_at c.args.a.0 (search rules)), lt-ltb _ _ c.if-n-lt208.true)
 
-pub returns : goal.returns
-returns c = rw (sym (mapped_at c.args.a.0 (search rules)), le-ltb _ _ c.if-n-lt208.false)
+pub returns-else-n-lt208 : goal.returns-else-n-lt208
+returns-else-n-lt208 c = rw (sym (mapped_at c.args.a.0 (search rules)), le-ltb _ _ c.if-n-lt208.false)

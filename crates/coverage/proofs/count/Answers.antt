@@ -19,14 +19,12 @@ overflow_add-n c = record {
 }
 
 pub loop-i-preserved : goal.loop-i-preserved
-loop-i-preserved c = record {
-  within = omega arith;
-  counted = ap (λ (k : ℕ). k + ones (slice_index c.args.map.now c.loop-i.i)) c.loop-i.invariant.counted
-      ∙ word_counted c.args.map.now c.loop-i.i (λ w. (c.type_inv.words w).fits);
-}
+loop-i-preserved c =
+    ap (λ (k : ℕ). k + ones (slice_index c.args.map.now c.loop-i.i)) c.loop-i.invariant
+    ∙ word_counted c.args.map.now c.loop-i.i (λ w. (c.type_inv.words w).fits)
 
 pub returns : goal.returns
 unfolding marked_count
 returns c =
     let e : c.loop-i.i ≡ map_words = omega arith in
-    rw e at c.loop-i.invariant.counted
+    rw e at c.loop-i.invariant

@@ -7,7 +7,7 @@ use Rattle.entries.proofs.entry_part.Goals as goal
 pub returns-then-a-lt-LARGEST_ROM : goal.returns-then-a-lt-LARGEST_ROM
 unfolding part
 returns-then-a-lt-LARGEST_ROM c =
-    let h = with_fields _ _ _ (rw (part, lt-ltb _ _ c.if-a-lt-LARGEST_ROM.true) c.part_at.ensures) in
+    let h = with_fields _ _ _ (rw (part, lt-ltb _ _ c.if-a-lt-LARGEST_ROM.true, ← c.from.ensures) c.part_at.ensures) in
     record { part = h.0; fields = h.1 }
 
 pub returns : goal.returns

@@ -1,40 +1,27 @@
-use Rattle.std.proofs.Common.{rules, arith, refl, pos_of_ne-zero}
-use Rattle.files.specs.ReadingLaws.{line_bounds, fed_none, fed_more, fed_line, turned_none, turned_line}
+-- A turn feeds the first line of what is left.
+use Rattle.std.proofs.Common.{arith, refl, ◌∙◌, pos_of_ne-zero}
+use Rattle.hex_text.specs.TextLaws.{first_of_lines}
+use Rattle.files.specs.ReadingLaws.{fed_none, fed_more, fed_first, turned_none, turned_first}
 use Rattle.files.proofs.feed_lines.Goals as goal
 
-pub loop-at-init : goal.loop-at-init
-loop-at-init c = (search rules, fed_none, c.requires, refl)
-
-pub slice_bounds-feed-end : goal.slice_bounds-feed-end
-slice_bounds-feed-end c =
-    let bounds = line_bounds c.args.piece.now c.loop-at.at c.line_behind-e.result c.loop-at-test.true c.line_behind-e.ensures in
-    search (rules, bounds)
+pub loop-line-init : goal.loop-line-init
+loop-line-init c = (fed_none, c.requires, refl)
 
 pub returns-then-next-ne0 : goal.returns-then-next-ne0
 returns-then-next-ne0 c =
-    rw c.make_turn.ensures
-    (turned_line c.args.piece.now c.loop-at.at c.line_behind-e.result c.loop-at-test.true c.line_behind-e.ensures c.loop-at.invariant.1 c.loop-at.invariant.2
-    c.feed-next.ensures.value c.feed-next.ensures.buffer_after (pos_of_ne-zero c.if-next-ne0.true))
-
-pub overflow_sub-e : goal.overflow_sub-e
-overflow_sub-e c =
-    let bounds = line_bounds c.args.piece.now c.loop-at.at c.line_behind-e.result c.loop-at-test.true c.line_behind-e.ensures in
-    omega (arith, bounds)
-
-pub loop-at-smaller : goal.loop-at-smaller
-loop-at-smaller c =
-    let bounds = line_bounds c.args.piece.now c.loop-at.at c.line_behind-e.result c.loop-at-test.true c.line_behind-e.ensures in
-    omega (arith, bounds)
+    let l = c.loop-line in
+    let w = first_of_lines _ _ _ c.in-Some.ensures.steps in
+    let e = c.feed-next.ensures in
+    turned_first _ _ w.0 w.1 l.invariant.0 l.invariant.1 e.value e.buffer_after (pos_of_ne-zero c.if-next-ne0.true)
 
 -- the lines before this one were fed, and this one
-pub loop-at-preserved : goal.loop-at-preserved
-loop-at-preserved c =
-    let l = c.loop-at in
-    let piece = c.args.piece.now in
-    let bounds = line_bounds piece l.at c.line_behind-e.result c.loop-at-test.true c.line_behind-e.ensures in
-    let line = fed_line {n = l.count} piece l.at c.line_behind-e.result c.loop-at-test.true c.line_behind-e.ensures c.feed-next.ensures.value
-    c.feed-next.ensures.buffer_after in
-    (bounds.1, fed_more l.invariant.3 l.invariant.1 (rw (← c.count_line-count.ensures) at line), c.if-next-ne0.false, search rules)
+pub loop-line-preserved : goal.loop-line-preserved
+loop-line-preserved c =
+    let l = c.loop-line in
+    let w = first_of_lines _ _ _ c.in-Some.ensures.steps in
+    let e = c.feed-next.ensures in
+    let line = fed_first _ _ w.0 w.1 {n = l.count} e.value e.buffer_after in
+    (fed_more l.invariant.2 l.invariant.0 (rw (c.count_line-count.ensures, c.byte_at.ensures, c.saturating_sub.ensures) line), c.if-next-ne0.false, c.feed-next.auto.buffer ∙ l.invariant.2)
 
 pub returns : goal.returns
-returns c = rw c.make_turn-2.ensures (turned_none 0 (λ h. omega (arith, h)) c.loop-at.invariant.2 c.loop-at.invariant.1)
+returns c = turned_none 0 (λ h. omega (arith, h)) c.loop-line.invariant.1 c.loop-line.invariant.0

@@ -4,10 +4,10 @@ use Rattle.std.proofs.Common.{sym}
 use Rattle.hex_line.specs.Line.{check_by}
 use Rattle.hex_line.proofs.check_body.Goals as goal
 
-pub returns-in-Formed : goal.returns-in-Formed
+pub returns-in_default : goal.returns-in_default
 unfolding check_by
-returns-in-Formed c = rw (sym c.in-Formed.ensures.0) c.check_fields.ensures
+returns-in_default c = rw (sym c.in_default.ensures.0)
 
-pub returns-in-Malformed : goal.returns-in-Malformed
+pub returns : goal.returns
 unfolding check_by
-returns-in-Malformed c = rw (sym c.in-Malformed.ensures.0)
+returns c = rw (sym c.in-Some.ensures.0) c.check_fields.ensures

@@ -5,21 +5,21 @@ use Rattle.hex_line.specs.Line.{read_by}
 use Rattle.hex_line.proofs.LineLaws.{read_parsed}
 use Rattle.hex_line.proofs.decide.Goals as goal
 
-pub returns-then-ended-clause-result_value : goal.returns-then-ended-clause-result_value
+pub returns-then-not-is_buffer_length-clause-result_value : goal.returns-then-not-is_buffer_length-clause-result_value
 unfolding read_by
-returns-then-ended-clause-result_value c = rw (sym c.is_buffer_length.ensures ∙ c.if-is_buffer_length.true, c.if-ended.true)
+returns-then-not-is_buffer_length-clause-result_value c = rw (sym c.if-not-is_buffer_length.ensures)
 
-pub returns-in-Formed-clause-result_value : goal.returns-in-Formed-clause-result_value
-returns-in-Formed-clause-result_value c =
-    c.answer.ensures
-    ∙ read_parsed _ _ _ _ (sym c.is_buffer_length.ensures ∙ c.if-is_buffer_length.true) c.if-ended.false
-    (rw c.body_length-n.ensures.0 at (sym c.in-Formed.ensures.result_value.0))
+pub returns-then-reader-clause-result_value : goal.returns-then-reader-clause-result_value
+unfolding read_by
+returns-then-reader-clause-result_value c = rw (sym c.if-not-is_buffer_length.ensures, c.if-reader.true)
 
-pub returns-in-Malformed-clause-result_value : goal.returns-in-Malformed-clause-result_value
-returns-in-Malformed-clause-result_value c =
-    read_parsed _ _ _ _ (sym c.is_buffer_length.ensures ∙ c.if-is_buffer_length.true) c.if-ended.false
-    (rw c.body_length-n.ensures.0 at (sym c.in-Malformed.ensures.result_value.0))
+pub returns-in_default-clause-result_value : goal.returns-in_default-clause-result_value
+returns-in_default-clause-result_value c =
+    read_parsed _ _ _ _ (sym c.if-not-is_buffer_length.ensures) c.if-reader.false
+    (rw c.body_length.ensures.0 at (sym c.in_default.ensures.result_value.0))
 
 pub returns-clause-result_value : goal.returns-clause-result_value
-unfolding read_by
-returns-clause-result_value c = rw (sym c.is_buffer_length.ensures ∙ c.if-is_buffer_length.false)
+returns-clause-result_value c =
+    c.answer.ensures
+    ∙ read_parsed _ _ _ _ (sym c.if-not-is_buffer_length.ensures) c.if-reader.false
+    (rw c.body_length.ensures.0 at (sym c.in-Some.ensures.result_value.0))

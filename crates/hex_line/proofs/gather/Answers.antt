@@ -8,7 +8,7 @@ use Rattle.hex_line.proofs.gather.Goals as goal
 
 pub loop-i-init : goal.loop-i-init
 unfolding total_of
-loop-i-init c = (refl, (((λ i h. absurd (omega arith)), (λ i h. absurd (omega arith))), search rules))
+loop-i-init c = (refl, ((λ i h. absurd (omega arith)), (λ i h. absurd (omega arith))))
 
 pub returns-then-high-gt15-clause-value : goal.returns-then-high-gt15-clause-value
 returns-then-high-gt15-clause-value c =
@@ -44,15 +44,13 @@ loop-i-preserved c =
     let body = c.args.body.now in
     let high = digit_of_lem body (l.i * 2 + 1) _ refl c.type_inv.body in
     let low = digit_of_lem body (l.i * 2 + 2) _ refl c.type_inv.body in
-    let pair = pair_of body l.i _ _ high low (search rules) (search rules) in (
-      rw (← pair) (total_next body l.i l.sum l.invariant.0),
-      (kept_next body l.i _ l.pairs l.invariant.1.0 (search rules) (sym pair) (omega arith), search rules),
-    )
+    let pair = pair_of body l.i _ _ high low (search rules) (search rules) in
+    (rw (← pair) (total_next body l.i l.sum l.invariant.0), kept_next body l.i _ l.pairs l.invariant.1 (search rules) (sym pair) (omega arith))
 
 pub returns-clause-value : goal.returns-clause-value
 returns-clause-value c =
     let l = c.loop-i in
     let e : l.i ≡ c.args.n = omega arith in
     let total = rw e at l.invariant.0 in
-    let kept = rw e at l.invariant.1.0 in
+    let kept = rw e at l.invariant.1 in
     total ∙ sym (sum_so_far _ _ kept.0)

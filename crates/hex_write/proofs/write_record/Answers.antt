@@ -1,6 +1,6 @@
 -- `write_record`: the colon first, two digits in a turn, the LF last.
 -- Assumes nothing.
-use Rattle.std.proofs.Common.{rules, arith, ◌≡◌, ap, ◌∙◌, ◌∷◌, ◌++◌, ◌+◌, ◌*◌, ◌/◌, ◌%◌, length, drop}
+use Rattle.std.proofs.Common.{arith, ◌≡◌, ap, ◌∙◌, ◌∷◌, ◌++◌, ◌+◌, ◌*◌, ◌/◌, ◌%◌, length, drop}
 use Rattle.std.proofs.Math.ListN.{set, length-set}
 use Rattle.std.proofs.lemmas.List.{drop-set-lt}
 use Rattle.base.specs.Lists.{store_next}
@@ -10,7 +10,7 @@ use Rattle.hex_write.proofs.write_record.Goals as goal
 
 pub loop-j-init : goal.loop-j-init
 unfolding digits
-loop-j-init c = (search rules, store_front c.args.out.now 58 (omega arith))
+loop-j-init c = store_front c.args.out.now 58 (omega arith)
 
 pub loop-j-preserved : goal.loop-j-preserved
 loop-j-preserved c =
@@ -20,12 +20,10 @@ loop-j-preserved c =
     let o = set c.args.out.now 0 58 in
     let b = c.record_byte-b in
     let high : b.result / 16 % 16 ≡ b.result / 16 = omega (arith, b.type_inv) in
-    let n : length (58 ∷ digits m k l.j) ≡ l.j * 2 + 1 = omega (arith, length_digits m k l.j) in (
-      search rules,
-      rw (l.invariant.1, c.hex_digit.ensures ∙ ap hex_digit high, c.hex_digit-in-loop-j.ensures, b.ensures, digits_more)
-          (store_two (58 ∷ digits m k l.j) o (l.j * 2 + 1) (l.j * 2 + 2) ((l.j + 1) * 2 + 1) _ _ n (omega arith) (omega arith)
-          (omega (arith, length-set c.args.out.now 0 58))),
-    )
+    let n : length (58 ∷ digits m k l.j) ≡ l.j * 2 + 1 = omega (arith, length_digits m k l.j) in
+    rw (l.invariant, c.hex_digit.ensures ∙ ap hex_digit high, c.hex_digit-in-loop-j.ensures, b.ensures, digits_more)
+    (store_two (58 ∷ digits m k l.j) o (l.j * 2 + 1) (l.j * 2 + 2) ((l.j + 1) * 2 + 1) _ _ n (omega arith) (omega arith)
+    (omega (arith, length-set c.args.out.now 0 58)))
 
 pub returns : goal.returns
 unfolding record_line
@@ -35,7 +33,7 @@ returns c =
     let k = c.args.k in
     let o = set c.args.out.now 0 58 in
     let e : l.j ≡ 21 = omega arith in
-    let g : l.out ≡ (58 ∷ digits m k 21) ++ drop 43 o = rw e at l.invariant.1 in
+    let g : l.out ≡ (58 ∷ digits m k 21) ++ drop 43 o = rw e at l.invariant in
     let n : length (58 ∷ digits m k 21) ≡ 43 = omega (arith, length_digits m k 21) in
     rw (
       g,

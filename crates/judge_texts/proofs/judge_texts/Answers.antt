@@ -17,6 +17,6 @@ returns c =
     ))
     (rw c.blank_certificate-cert.ensures at c.read_text-certificate_read.auto.buffer) c.check-verdict.ensures.verdict in
     record {
-      result_value = c.write_judgement.ensures.result_value ∙ e.0;
-      out_after = c.write_judgement.ensures.out_after ∙ e.1;
+      result_value = (rw (c.numbered-image_number.ensures, c.numbered-certificate_number.ensures) at c.write_judgement.ensures.result_value) ∙ e.0;
+      out_after = (rw (c.numbered-image_number.ensures, c.numbered-certificate_number.ensures) at c.write_judgement.ensures.out_after) ∙ e.1;
     }

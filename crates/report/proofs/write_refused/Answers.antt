@@ -5,4 +5,5 @@ use Rattle.report.proofs.write_refused.Goals as goal
 
 pub returns : goal.returns
 unfolding refused_text
-returns c = stored_more c.write_word-a.ensures (stored_more c.write_number-b.ensures c.write_address.ensures)
+returns c =
+    stored_more c.write_word-a.ensures (stored_more (rw c.from.ensures at c.write_number-b.ensures) c.write_address.ensures)

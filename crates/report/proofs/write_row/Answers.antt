@@ -9,4 +9,4 @@ returns c =
     let fields =
     stored_more c.write_number-a.ensures
     (stored_more c.write_address-b.ensures (stored_more c.write_number-c.ensures c.write_number.ensures)) in
-    rw c.routine_row-row.ensures at fields
+    rw (c.from.ensures, c.from-2.ensures, c.routine-row.ensures) at fields

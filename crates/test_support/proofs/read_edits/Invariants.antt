@@ -1,10 +1,6 @@
--- After each turn some edits were made; the measure is the number of edits left.
-use Rattle.std.proofs.Common.{length, ◌≡◌}
+-- After each turn some edits were made.
 use Rattle.test_support.specs.Edits.{Edited}
 use Rattle.test_support.proofs.read_edits.Given as goal
 
-abbrev pub invariant-loop-left : goal.invariant-loop-left
-invariant-loop-left g l = Edited l.initial.bytes l.bytes × (length l.bytes ≡ length l.initial.bytes)
-
-abbrev pub decreases-loop-left : goal.decreases-loop-left
-decreases-loop-left g l = l.left
+abbrev pub invariant-loop : goal.invariant-loop
+invariant-loop g l = Edited l.initial.bytes l.bytes

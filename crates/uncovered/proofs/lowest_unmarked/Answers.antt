@@ -11,16 +11,16 @@ returns-then-not-is_certificate_length c =
 pub returns-then-bit-lt-WORD_BITS : goal.returns-then-bit-lt-WORD_BITS
 returns-then-bit-lt-WORD_BITS c =
     let l = c.loop-word in
-    let read = lowest_bit _ _ _ _ c.others.ensures l.invariant.2 (c.fits-map l.word) (omega (arith, c.others.type_inv)) in
-    rw c.address.ensures (sym (at_lowest _ _ _ l.invariant.1 (read.here c.if-bit-lt-WORD_BITS.true)))
+    let read = lowest_bit _ _ _ _ c.others.ensures l.invariant.1 (c.fits-map l.word) (omega (arith, c.others.type_inv)) in
+    rw c.address.ensures (sym (at_lowest _ _ _ l.invariant.0 (read.here c.if-bit-lt-WORD_BITS.true)))
 
 pub loop-word-preserved : goal.loop-word-preserved
 loop-word-preserved c =
     let l = c.loop-word in
-    let read = lowest_bit _ _ _ _ c.others.ensures l.invariant.2 (c.fits-map l.word) (omega (arith, c.others.type_inv)) in
-    (omega arith, l.invariant.1, λ b k. read.below b (omega (arith, read.most, c.if-bit-lt-WORD_BITS.false)))
+    let read = lowest_bit _ _ _ _ c.others.ensures l.invariant.1 (c.fits-map l.word) (omega (arith, c.others.type_inv)) in
+    (l.invariant.0, λ b k. read.below b (omega (arith, read.most, c.if-bit-lt-WORD_BITS.false)))
 
 pub returns : goal.returns
 returns c =
     let l = c.loop-word in
-    sym (marked_all _ _ l.invariant.1 (λ a s. l.invariant.2 a (omega (arith, start_in_rom _ a s, c.loop-word-test.false)) s))
+    sym (marked_all _ _ l.invariant.0 (λ a s. l.invariant.1 a (omega (arith, start_in_rom _ a s)) s))

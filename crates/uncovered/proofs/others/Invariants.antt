@@ -1,7 +1,5 @@
 -- `others`: below `k` the bits are those of the addresses, from `k` on they are clear.
-use Rattle.std.proofs.Common.{◌-◌, not, ℕ, ◌+◌, ◌*◌, ◌≤◌}
-use Rattle.certificate.specs.Layout.{certificate_of}
-use Rattle.uncovered.specs.Lowest.{is_start}
+use Rattle.std.proofs.Common.{not, ℕ, ◌+◌, ◌*◌}
 use Rattle.certificate.specs.Layout.{certificate_of}
 use Rattle.uncovered.specs.Lowest.{is_start}
 use Rattle.uncovered.proofs.Words.{Upto}
@@ -13,7 +11,4 @@ abbrev other : List ℕ → ℕ → ℕ → Bool
 other cert word k = not (is_start (certificate_of cert) (64 * word + k))
 
 abbrev pub invariant-loop-k : goal.invariant-loop-k
-invariant-loop-k l = (l.k ≤ 64) × Upto (other l.cert l.word) l.k l.bits
-
-abbrev pub decreases-loop-k : goal.decreases-loop-k
-decreases-loop-k l = 64 - l.k
+invariant-loop-k l = Upto (other l.cert l.word) l.k l.bits

@@ -1,4 +1,0 @@
-use Rattle.upper_vectors.proofs.run_cases.Given as goal
-
-abbrev pub decreases-loop-counts : goal.decreases-loop-counts
-decreases-loop-counts g l = l.counts.left
