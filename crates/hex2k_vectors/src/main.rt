@@ -21,11 +21,28 @@ const LINES_AT_END: [&[u8]; 5] = [
     b":00080000F8", // no data, at the end
 ];
 
-// An image that is a byte too short.
-const SHORT_IMAGE: usize = IMAGE_2K - 1;
+// Prints the answers for an image of 2047 bytes.
+fn example_of_length(rt: &impl Print) -> io::Result<()> {
+    let mut image = [255u8; IMAGE_2K - 1];
+    let mut pieces = [255u8; IMAGE_2K - 1];
+    let mut out = [0u8; TEXT_LENGTH_2K];
+    hex_cases::example_of_length(rt, Profile::Rom2K, &mut image, &mut pieces, &mut out)
+}
 
-// Where the last data record begins in the text that is written.
-const LAST_RECORD: usize = TEXT_LENGTH_2K - 56;
+// Shows the last data record.
+fn write_and_read(rt: &impl Print) -> io::Result<()> {
+    let mut image = [0u8; IMAGE_2K];
+    let mut out = [0u8; TEXT_LENGTH_2K];
+    let mut back = [0u8; IMAGE_2K];
+    hex_cases::write_and_read(
+        rt,
+        Profile::Rom2K,
+        &mut image,
+        &mut out,
+        &mut back,
+        TEXT_LENGTH_2K - 56,
+    )
+}
 
 // Prints the writer's answer for a part, whether the buffer is as it was, and the lengths.
 fn write_example(
@@ -68,8 +85,8 @@ fn main(rt: HostRuntime) -> io::Result<()> {
     for line in LINES_AT_END {
         hex_cases::line_example(&rt, Profile::Rom2K, line)?;
     }
-    hex_cases::example_of_length::<SHORT_IMAGE, TEXT_LENGTH_2K>(&rt, Profile::Rom2K)?;
-    hex_cases::write_and_read::<IMAGE_2K, TEXT_LENGTH_2K>(&rt, Profile::Rom2K, LAST_RECORD)?;
+    example_of_length(&rt)?;
+    write_and_read(&rt)?;
     refused_images(&rt)?;
     hex_cases::run_cases(&rt, Profile::Rom2K, b"hex2k.bin")
 }

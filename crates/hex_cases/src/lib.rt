@@ -91,21 +91,19 @@ pub fn written_number(answer: Result<usize, InvalidArgument>) -> u64 {
     }
 }
 
-// Prints the answers for an image of a length that no part has: the readers' and the writer's.
-pub fn example_of_length<const IMAGE: usize, const TEXT: usize>(
+// Prints the answers for two images of a length that no part has: the readers' and the writer's. Lent buffers, and no const parameters, which would ask
+// callers for a bound on the sizes (tried).
+pub fn example_of_length(
     rt: &impl Print,
     profile: Profile,
-) -> io::Result<()>
-    requires image { IMAGE < 65536 }
-    requires text { TEXT < 65536 }
-{
-    let mut image = [255u8; IMAGE];
-    let mut pieces = [255u8; IMAGE];
-    let mut out = [0u8; TEXT];
-    print_numbers(rt, b":00000001FF", &mut image, &mut pieces)?;
+    image: &mut [u8],
+    pieces: &mut [u8],
+    out: &mut [u8],
+) -> io::Result<()> {
+    print_numbers(rt, b":00000001FF", image, pieces)?;
     println!(rt;
         "{} image of {} bytes",
-        written_number(hex_write::write_image(profile, &image, &mut out)),
+        written_number(hex_write::write_image(profile, image, out)),
         image.len()
     )
 }
@@ -125,27 +123,24 @@ fn print_part(rt: &impl Print, text: &[u8], at: usize, length: usize) -> io::Res
     }
 }
 
-// Writes an image, prints its length, one of its records and the end line, and reads it back.
-pub fn write_and_read<const IMAGE: usize, const TEXT: usize>(
+// Writes an image, prints its length, one of its records and the end line, and reads it back. Lent buffers, as above.
+pub fn write_and_read(
     rt: &impl Print,
     profile: Profile,
+    image: &mut [u8],
+    out: &mut [u8],
+    back: &mut [u8],
     at: usize,
-) -> io::Result<()>
-    requires image { IMAGE < 65536 }
-    requires text { TEXT < 65536 }
-{
-    let mut image = [0u8; IMAGE];
-    let mut out = [0u8; TEXT];
-    let mut back = [0u8; IMAGE];
-    fill(&mut image);
+) -> io::Result<()> {
+    fill(image);
     println!(rt;
         "{} bytes",
-        written_number(hex_write::write_image(profile, &image, &mut out))
+        written_number(hex_write::write_image(profile, image, out))
     )?;
-    print_part(rt, &out, at, 44)?;
-    print_part(rt, &out, hex_write::text_length(profile) - 12, 12)?;
-    let number = text_number(hex_text::read_text(&out, &mut back));
-    let equal = if image == back {
+    print_part(rt, out, at, 44)?;
+    print_part(rt, out, hex_write::text_length(profile) - 12, 12)?;
+    let number = text_number(hex_text::read_text(out, back));
+    let equal = if &*image == &*back {
         "read back"
     } else {
         "not read back"

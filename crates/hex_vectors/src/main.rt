@@ -32,11 +32,21 @@ const TWO_FAULTS: [&[u8]; 10] = [
     b":020100028FFF6D", // type, overlap
 ];
 
-// An image that is a byte too short.
-const SHORT_IMAGE: usize = IMAGE_4K - 1;
+// Prints the answers for an image of 4095 bytes.
+fn example_of_length(rt: &impl Print) -> io::Result<()> {
+    let mut image = [255u8; IMAGE_4K - 1];
+    let mut pieces = [255u8; IMAGE_4K - 1];
+    let mut out = [0u8; TEXT_LENGTH_4K];
+    hex_cases::example_of_length(rt, Profile::Rom4K, &mut image, &mut pieces, &mut out)
+}
 
-// Where the second record begins in the text that is written.
-const SECOND_RECORD: usize = 44;
+// Shows the second record.
+fn write_and_read(rt: &impl Print) -> io::Result<()> {
+    let mut image = [0u8; IMAGE_4K];
+    let mut out = [0u8; TEXT_LENGTH_4K];
+    let mut back = [0u8; IMAGE_4K];
+    hex_cases::write_and_read(rt, Profile::Rom4K, &mut image, &mut out, &mut back, 44)
+}
 
 const EXAMPLES: [&[u8]; 10] = [
     b":020100008FFF6F\n:00000001FF",
@@ -56,10 +66,10 @@ fn main(rt: HostRuntime) -> io::Result<()> {
         hex_cases::example(&rt, Profile::Rom4K, text)?;
     }
     example_without_end(&rt)?;
-    hex_cases::example_of_length::<SHORT_IMAGE, TEXT_LENGTH_4K>(&rt, Profile::Rom4K)?;
+    example_of_length(&rt)?;
     for line in TWO_FAULTS {
         hex_cases::line_example(&rt, Profile::Rom4K, line)?;
     }
-    hex_cases::write_and_read::<IMAGE_4K, TEXT_LENGTH_4K>(&rt, Profile::Rom4K, SECOND_RECORD)?;
+    write_and_read(&rt)?;
     hex_cases::run_cases(&rt, Profile::Rom4K, b"hex.bin")
 }
