@@ -6,7 +6,7 @@ ghost use Rattle.base.specs.Parts.{part_of};
 ghost use Rattle.certificate.specs.Layout.{certificate_of};
 ghost use Rattle.certificate.specs.declared.Verdict.TheVariants.{Accepted};
 ghost use Rattle.entries.specs.Fields.{said_by};
-ghost use Rattle.safety.specs.Verdicts.{rules_on, first_broken, number_at, scan, verdict_of, Exact};
+ghost use Rattle.safety.specs.Verdicts.{rules_on, rules_at, first_broken, number_at, scan, verdict_of, Exact};
 ghost use Rattle.safety.specs.Statement.{setup_for, Demand3};
 ghost use Rattle.semantics.specs.Setup.{setup_of};
 ghost use Rattle.checker.specs.Broken.{number_told};
@@ -48,17 +48,27 @@ fn first_broken(rom: u16, n: &EntryAt, i: Located, cost: u8) -> Option<u8>
     None
 }
 
+// The lowest number of a rule that is broken at an address with an entry. A function of its own: within the loop over the addresses it takes the registers
+// of those that have none.
+#[inline(never)]
+#[tactic(auto, unfolding(located::specs::Located::located_in, safety::specs::Verdicts::summary_at, safety::specs::Verdicts::next_at))]
+fn broken_in(rom: u16, image: &[u8], cert: &Certificate, a: RomAddr) -> Option<u8>
+    ensures { result ≡ number_told (first_broken (rules_at rom (said_by cert.now) image.now a.0)) }
+{
+    let n = EntryAt::new(cert, a);
+    let i = located::instruction_at(image, &n);
+    first_broken(rom, &n, i, located::cost_at(image, a))
+}
+
 // The lowest number of a rule that is broken at an address; where no instruction starts, none is.
-#[tactic(auto, unfolding(located::specs::Located::located_in, safety::specs::Verdicts::summary_at, safety::specs::Verdicts::next_at, safety::specs::Verdicts::number_by))]
+#[tactic(auto, unfolding(safety::specs::Verdicts::number_by))]
 fn broken_at(rom: u16, image: &[u8], cert: &Certificate, a: RomAddr) -> Option<u8>
     ensures { result ≡ number_told (number_at rom (said_by cert.now) image.now a.0) }
 {
-    let n = EntryAt::new(cert, a);
-    if n.entry.routine == 0 {
+    if cert.entry(a).routine == 0 {
         return None;
     }
-    let i = located::instruction_at(image, &n);
-    first_broken(rom, &n, i, located::cost_at(image, a))
+    broken_in(rom, image, cert, a)
 }
 
 // The lowest address with a broken rule, and there the lowest number.

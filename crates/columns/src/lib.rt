@@ -14,7 +14,7 @@ use isa::{
     UnaryRow,
 };
 
-// The three bytes behind an instruction's first.
+// The three bytes behind an instruction's first. What takes them is put within its caller: lent to a call they go through memory.
 #[derive(Clone, Copy, Debug, PartialEq, Eq)]
 pub struct Following {
     pub first: u8,
@@ -24,6 +24,7 @@ pub struct Following {
 
 impl Following {
     // The halves of the first byte, high half first.
+    #[inline(always)]
     pub fn nibbles(self) -> (u8, u8)
         ensures { result ≡ (self.first / 16, self.first % 16) }
     {
@@ -31,6 +32,7 @@ impl Following {
     }
 
     // The address in the first two bytes, high half first.
+    #[inline(always)]
     pub fn address(self) -> RomAddr
         ensures { result.0 ≡ self.first * 256 + self.second }
     {
@@ -78,6 +80,7 @@ fn even_pair(pair: RegAddr) -> Result<RegAddr, DecodeError>
 }
 
 // Columns 2 to 6 in the rows of an operation.
+#[inline(always)]
 fn alu_form(low: u8, op: Alu, row: u8, bytes: Following) -> Decoded
     ensures { decoded (Ok result) ≡ answer_of (alu_cell low op) row bytes.first bytes.second bytes.third }
 {
@@ -95,6 +98,7 @@ fn alu_form(low: u8, op: Alu, row: u8, bytes: Following) -> Decoded
 }
 
 // Columns 2 to 6 in the other rows.
+#[inline(always)]
 fn other_form(low: u8, row: u8, bytes: Following) -> Result<Decoded, DecodeError>
     ensures { decoded result ≡ answer_of (other_cell low row) row bytes.first bytes.second bytes.third }
 {
@@ -119,6 +123,7 @@ fn other_form(low: u8, row: u8, bytes: Following) -> Result<Decoded, DecodeError
 }
 
 // Columns 2 to 6.
+#[inline(always)]
 pub fn alu_column(low: u8, row: u8, bytes: Following) -> Result<Decoded, DecodeError>
     ensures { decoded result ≡ answer_of (alu_column low row) row bytes.first bytes.second bytes.third }
 {
@@ -159,6 +164,7 @@ fn unary_names(op: Unary) -> FlagSet
 }
 
 // Columns 0 and 1.
+#[inline(always)]
 pub fn unary_column(low: u8, row: u8, bytes: Following) -> Result<Decoded, DecodeError>
     ensures { decoded result ≡ answer_of (unary_column low row) row bytes.first bytes.second bytes.third }
 {

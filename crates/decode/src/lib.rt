@@ -14,6 +14,7 @@ use isa::{
     RESULT_FLAGS,
 };
 
+#[inline(always)]
 fn column_7(row: u8, bytes: Following) -> Result<Decoded, DecodeError>
     ensures { decoded result ≡ answer_of (column7 row) row bytes.first bytes.second bytes.third }
 {
@@ -37,6 +38,7 @@ fn column_7(row: u8, bytes: Following) -> Result<Decoded, DecodeError>
 }
 
 // Columns 8 to E, where the row is a register or a condition.
+#[inline(always)]
 fn row_column(low: u8, row: u8, bytes: Following) -> Result<Decoded, DecodeError>
     ensures { decoded result ≡ answer_of (row_column low) row bytes.first bytes.second bytes.third }
 {
@@ -71,6 +73,7 @@ fn implied_row(row: u8) -> Option<(Implied, FlagSet)>
     }
 }
 
+#[inline(always)]
 fn column_f(row: u8, bytes: Following) -> Result<Decoded, DecodeError>
     ensures { decoded result ≡ answer_of (column_f row) row bytes.first bytes.second bytes.third }
 {
@@ -81,6 +84,7 @@ fn column_f(row: u8, bytes: Following) -> Result<Decoded, DecodeError>
 }
 
 // The whole map. A match, and no table of functions: the columns take different arguments.
+#[inline(always)]
 pub fn form(first: u8, bytes: Following) -> Result<Decoded, DecodeError>
     ensures { decoded result ≡ answer_of (cell_of first) (first / 16) bytes.first bytes.second bytes.third }
 {

@@ -178,7 +178,8 @@ pub fn entry_cost(cert: &[u8]) -> u8
 }
 
 impl<'a> Certificate<'a> {
-    // The fields of the entry of a ROM address, read from its part.
+    // The fields of the entry of a ROM address, read from its part. Within its caller: who asks for one field reads no more.
+    #[inline(always)]
     pub fn entry(&self, a: RomAddr) -> Entry
         ensures { result ≡ entry_of (said_by self.now) a.0 }
     {

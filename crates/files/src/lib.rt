@@ -3,11 +3,11 @@
 
 mod tell;
 
-ghost use Rattle.std.specs.Prelude.{◌≡◌};
+ghost use Rattle.std.specs.Prelude.{◌≡◌, ◌<◌};
 ghost use Rattle.hex_text.specs.Text.{text_outcome};
 ghost use Rattle.hex_text.specs.Stream.{started};
 ghost use Rattle.hex_write.specs.ImageText.{written_outcome};
-ghost use Rattle.files.specs.Reading.{reading_number, counted, line_end, Turned, answer_of, Reads, Judges};
+ghost use Rattle.files.specs.Reading.{reading_number, counted, line_end, Turned, turns_left, answer_of, Reads, Judges};
 
 use base::{InvalidArgument, Profile, byte_at};
 use hex_line::Fault;
@@ -93,7 +93,20 @@ fn read_piece(file: &mut impl Read, stream: Stream, lines: u32, buffer: &mut [u8
     }
 }
 
-// Reads an open file to its end or to its first refused line. The turns are more than any file has pieces.
+// How many turns are left behind one: none once the file ended, failed or is refused.
+fn turns_left(turns: u64, state: Reading) -> u64
+    requires { 0 < turns }
+    ensures { result ≡ turns_left turns (reading_number state) }
+{
+    if state == Reading::GoesOn {
+        turns - 1
+    } else {
+        0
+    }
+}
+
+// Reads an open file to its end or to its first refused line. The turns are more than any file has pieces. They are counted by hand: S`turns_left` says how
+// many are left.
 fn read_open(file: &mut impl Read, buffer: &mut [u8]) -> Turn
     ensures { Turned started result.stream 0 result.lines (reading_number result.state) buffer.old buffer.new }
 {
@@ -102,11 +115,10 @@ fn read_open(file: &mut impl Read, buffer: &mut [u8]) -> Turn
         lines: 0,
         state: Reading::GoesOn,
     };
-    for _ in 0..u64::MAX {
+    let mut turns = u64::MAX;
+    while turns > 0 {
         turn = read_piece(file, turn.stream, turn.lines, buffer);
-        if turn.state != Reading::GoesOn {
-            return turn;
-        }
+        turns = turns_left(turns, turn.state);
     }
     turn
 }

@@ -2,7 +2,7 @@
 #![tactic(auto)]
 
 use decode::decode;
-use isa::{DecodeError, Flag, FlagSet, NO_FLAGS};
+use isa::{DecodeError, Flag, FlagSet};
 use std::io;
 use std::io::Read;
 use test_support::{Case, Counts, hex_byte, put, read_line};
@@ -18,7 +18,7 @@ fn put_names(line: &mut Line, names: FlagSet) {
         (Flag::Sign, b'S'),
         (Flag::Overflow, b'V'),
     ];
-    if names == NO_FLAGS {
+    if names.0 == 0 {
         put(line, 3, b"-");
         return;
     }

@@ -3,7 +3,7 @@
 
 ghost use Rattle.std.specs.Prelude.{◌≡◌, ◌+◌, ◌<◌, ◌≤◌, length, drop};
 ghost use Rattle.hex_line.specs.Line.{fault_number};
-ghost use Rattle.hex_fault.specs.Finding.{digits_from, called_for, wrong_count, malformed, last_pair, bad_sum, refusal_finding, finding_of};
+ghost use Rattle.hex_fault.specs.Finding.{digits_from, called_for, wrong_count, malformed, last_pair, bad_sum, line_finding, refusal_finding, finding_of};
 
 use base::byte_at;
 use hex_line::{Fault, LONGEST_BODY, Reader};
@@ -181,19 +181,28 @@ fn sum_finding(body: &[u8], sum: u16) -> Finding
     Finding::Sum(found, (found + 256 - sum) % 256)
 }
 
-// What was found in a line without its end, by its refusal. 7 and 6 are no fault of the line itself.
-fn refusal_finding(fault: Fault, body: &[u8], length: usize, reader: Reader) -> Finding
-    ensures { result ≡ refusal_finding body.now length reader (fault_number fault) }
+// What was found in a line that is refused for itself.
+fn line_finding(fault: Fault, body: &[u8], length: usize, reader: Reader) -> Finding
+    ensures { result ≡ line_finding body.now length reader (fault_number fault) }
 {
     match (fault, hex_line::parse(body)) {
-        (Fault::WrongLength, _) => Finding::OtherBuffer,
-        (Fault::AfterEnd, _) => Finding::BehindEnd,
         (_, None) => malformed_finding(body),
-        (Fault::Malformed, Some(_)) => Finding::NoEndLine,
         (Fault::BadSum, Some(f)) => sum_finding(body, f.sum),
         (Fault::BadType, Some(f)) => Finding::Type(f.kind),
         (Fault::Overlap, Some(f)) => Finding::Address(f.address, reader.next),
         (Fault::PastEnd, Some(f)) => Finding::End(f.address + f.count, length),
+        (_, Some(_)) => Finding::NoEndLine,
+    }
+}
+
+// What was found in a line without its end, by its refusal. 7 and 6 are no fault of the line itself, so it is not parsed for them.
+fn refusal_finding(fault: Fault, body: &[u8], length: usize, reader: Reader) -> Finding
+    ensures { result ≡ refusal_finding body.now length reader (fault_number fault) }
+{
+    match fault {
+        Fault::WrongLength => Finding::OtherBuffer,
+        Fault::AfterEnd => Finding::BehindEnd,
+        _ => line_finding(fault, body, length, reader),
     }
 }
 

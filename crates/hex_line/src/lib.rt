@@ -150,6 +150,17 @@ pub fn pair(high: u8, low: u8) -> Option<u8>
     Some(digit(high)? * 16 + digit(low)?)
 }
 
+// The value of two digits that are given as numbers, 256 where one is none.
+pub fn join(high: u16, low: u16) -> u16
+    ensures { (result ≡ joined high low) × (result < 257) }
+{
+    if high < 16 && low < 16 {
+        high * 16 + low
+    } else {
+        256
+    }
+}
+
 // The most pairs that a line has: length byte, address, type, 255 data bytes, sum.
 const PAIRS: usize = 260;
 

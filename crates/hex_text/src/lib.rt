@@ -139,43 +139,40 @@ fn long_line(reader: Reader, length: usize) -> Fault
     }
 }
 
-impl Stream {
-    // Reads one more character: it is held, and LF ends the line. Behind a refusal it is ignored.
-    #[tactic(auto, unfolding(crate::specs::Stream::push_stream, crate::specs::Stream::push_buffer))]
-    fn push(&mut self, c: u8, buffer: &mut [u8])
-        ensures value { self.new ≡ push_stream (length buffer.old) self.old c }
-        ensures buffer_after { buffer.new ≡ push_buffer self.old c buffer.old }
-    {
-        if self.number != 0 {
-            return;
-        }
-        if self.count >= LONGEST {
-            self.number = u8::from(long_line(self.reader, buffer.len()));
-            return;
-        }
-        self.held[self.count] = c;
-        self.count += 1;
-        if c != b'\n' {
-            return;
-        }
-        match hex_line::read_line(&self.held[..self.count], buffer, self.reader) {
-            Ok(next) => {
-                self.reader = next;
-                self.count = 0;
-            }
-            Err(fault) => self.number = u8::from(fault),
-        }
-    }
-}
-
-// Reads the next piece of a file, cut anywhere. Behind a refusal all pieces are ignored.
+// Reads the next piece of a file, cut anywhere. A character is held, and LF ends the line. Behind a refusal all is ignored. The count is kept apart from the
+// stream until the end: in it, it would be stored at each character.
+#[tactic(auto, unfolding(crate::specs::Stream::push_stream, crate::specs::Stream::push_buffer))]
 pub fn feed(mut s: Stream, piece: &[u8], buffer: &mut [u8]) -> Stream
     ensures value { result ≡ feed_stream (length buffer.old) s piece.now }
     ensures buffer_after { buffer.new ≡ feed_buffer s piece.now buffer.old }
 {
-    for c in piece {
-        s.push(*c, buffer);
+    if s.number != 0 {
+        return s;
     }
+    let mut count = s.count;
+    for c in piece {
+        if count >= LONGEST {
+            s.number = u8::from(long_line(s.reader, buffer.len()));
+            s.count = count;
+            return s;
+        }
+        s.held[count] = *c;
+        count += 1;
+        if *c == b'\n' {
+            match hex_line::read_line(&s.held[..count], buffer, s.reader) {
+                Ok(next) => {
+                    s.reader = next;
+                    count = 0;
+                }
+                Err(fault) => {
+                    s.number = u8::from(fault);
+                    s.count = count;
+                    return s;
+                }
+            }
+        }
+    }
+    s.count = count;
     s
 }
 

@@ -186,7 +186,7 @@ impl fmt::Display for Letters {
             (Flag::Sign, "S"),
             (Flag::Overflow, "V"),
         ];
-        if self.0 == isa::NO_FLAGS {
+        if self.0.0 == 0 {
             return f.write_str("-");
         }
         for (flag, letter) in letters {

@@ -137,6 +137,8 @@ fn claims_rule(n: &EntryAt) -> bool
     claim_rule(n, e.first) && claim_rule(n, e.second) && distinct && compare_rule(n)
 }
 
+// A call: within the loop over the addresses it takes the registers of the empty ones.
+#[inline(never)]
 #[tactic(auto, using(crate::specs::Parts::entry_parts))]
 fn entry_rule(n: &EntryAt) -> bool
     ensures { result ≡ decide (entry_rule (said_by n.now.certificate) n.now.address.0) }
@@ -149,11 +151,11 @@ fn entry_rule(n: &EntryAt) -> bool
 fn address_rule(rom: u16, cert: &Certificate, a: RomAddr) -> bool
     ensures { result ≡ decide (address_rule (said_by cert.now) rom a.0) }
 {
-    let n = EntryAt::new(cert, a);
-    if n.entry.routine == 0 {
-        return empty_entry(&n);
+    // Made anew in each branch: most entries are empty, and one of these is not lent on.
+    if cert.entry(a).routine == 0 {
+        return empty_entry(&EntryAt::new(cert, a));
     }
-    a.0 < rom && entry_rule(&n)
+    a.0 < rom && entry_rule(&EntryAt::new(cert, a))
 }
 
 // The depth at the start of routine n.

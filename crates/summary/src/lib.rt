@@ -5,6 +5,8 @@ ghost use Rattle.std.specs.Prelude.{◌≡◌};
 ghost use Rattle.certificate.specs.Summaries.{write_to, binary_value, flag_effect, binary_flags, binary_summary, modify_value, load_summary};
 ghost use Rattle.certificate.specs.Summaries.{code_access, summary_of};
 ghost use Rattle.alu.specs.Operations.{stores};
+ghost use Rattle.entries.specs.Fields.{said_by};
+ghost use Rattle.safety.specs.CodeRange.{load_range};
 ghost use Rattle.certificate.specs.declared.NewValue.TheVariants.{Unknown, Within};
 ghost use Rattle.certificate.specs.declared.StackEffect.TheVariants.{Same, Push, Pop};
 
@@ -13,6 +15,7 @@ use base::{RegAddr, RomAddr};
 use certificate::{
     Access, CodeAccess, Control, FlagEffect, Flow, NewValue, Range, StackEffect, Summary, Write,
 };
+use claims::EntryAt;
 use isa::{Alu, FlagSet, Unary};
 
 fn write_to(d: Operand, v: NewValue) -> Write
@@ -286,7 +289,7 @@ fn load_code(d: RegAddr, from: CodeAccess, loaded: Range, g: FlagEffect) -> Summ
 
 // The effect summary of an action and the flags that it names; load gives the range of the bytes that LDC, LDCI and LDCD can load.
 #[tactic(auto, unfolding(certificate::specs::Summaries::summary_of))]
-pub fn summary_of<F: Fn(CodeAccess) -> Range>(load: F, action: Action, names: FlagSet) -> Summary
+fn summary_by<F: Fn(CodeAccess) -> Range>(load: F, action: Action, names: FlagSet) -> Summary
     requires { F.IsAlwaysCallable load }
     ensures { (l : _) → ((c : _) (r : _) → F.post load c r → r ≡ l c) → result ≡ summary_of l action names }
 {
@@ -314,4 +317,11 @@ pub fn summary_of<F: Fn(CodeAccess) -> Range>(load: F, action: Action, names: Fl
         Action::Carry(_) | Action::Nop => controlling(g, Control::Nothing, PLAIN.flow),
         Action::External | Action::JumpPair(_) | Action::CallPair(_) | Action::Stop => forbidden(),
     }
+}
+
+// The effect summary of the action of the instruction at an entry's address, and of the flags that it names.
+pub fn summary_of(image: &[u8], n: &EntryAt, action: Action, names: FlagSet) -> Summary
+    ensures { result ≡ summary_of (load_range (said_by n.now.certificate) image.now n.now.address.0) action names }
+{
+    summary_by(|c| code_range::load_range(image, n, c), action, names)
 }

@@ -10,7 +10,7 @@ unfolding all_between
 returns-then-not-passes g c p f =
     let v = c.loop-v.v in
     let fails = decide_false (p v) (f v c.passes.result (omega arith) c.passes.ensures) c.if-not-passes.true in
-    decide_no (all_between c.args.low c.args.high p) (λ m. fails (m v (omega arith) (c.loop-v.auto.v, c.loop-v-test.true)))
+    decide_no (all_between c.args.low c.args.high p) (λ m. fails (m v (omega arith) (c.loop-v.auto.v, omega (arith, c.loop-v-test.true))))
 
 pub returns : goal.returns
 unfolding all_between

@@ -1,17 +1,94 @@
--- `feed`: a turn feeds one character.
+-- `feed`: a turn feeds one character, and ends where a line is refused.
 -- Assumes nothing.
-use Rattle.std.proofs.Common.{sym, ◌∙◌}
-use Rattle.hex_text.specs.StreamLaws.{fed_one, fed_all}
+use Rattle.std.proofs.Common.{rules, ◌≡◌, ◌<◌, arith, refl, sym, ◌∙◌, le-leb, eq-eqb, ne_eqb, length}
+use Rattle.std.proofs.Math.ListN.{length-set}
+use Rattle.std.proofs.lemmas.Bool.{lt-leb}
+use Rattle.hex_line.proofs.Refusals.{line_number}
+use Rattle.hex_text.specs.Stream.{push_stream, push_buffer}
+use Rattle.hex_text.specs.StreamLaws.{fed_one, fed_all, fed_refused, feed_refused, feed_refused_buffer, open_stream}
+use Rattle.hex_text.specs.Refusals.{long_number_lem}
+use Rattle.hex_text.proofs.feed.Goals.{then-c-eq10+in-Ok, else-c-eq10}
 use Rattle.hex_text.proofs.feed.Goals as goal
 
+pub returns-then-s-ne0-clause-value : goal.returns-then-s-ne0-clause-value
+returns-then-s-ne0-clause-value c =
+    let above : 0 < c.args.s.number = omega arith in
+    sym (feed_refused _ c.args.s c.args.piece.now above)
+
+pub returns-then-s-ne0-clause-buffer_after : goal.returns-then-s-ne0-clause-buffer_after
+returns-then-s-ne0-clause-buffer_after c =
+    let above : 0 < c.args.s.number = omega arith in
+    sym (feed_refused_buffer c.args.s c.args.piece.now c.args.buffer.now above)
+
+pub returns-then-count-ge-LONGEST-clause-value : goal.returns-then-count-ge-LONGEST-clause-value
+unfolding push_stream push_buffer
+returns-then-count-ge-LONGEST-clause-value c =
+    let l = c.loop-c in
+    let size = length c.args.buffer.now in
+    let long = le-leb _ _ c.if-count-ge-LONGEST.true in
+    let f =
+    fed_refused (fed_one l.invariant.0 c.loop-c-test.true l.invariant.1.0 refl refl)
+    (rw long (long_number_lem l.s.reader size).0) in
+    rw (c.from.ensures, c.long_line.ensures, l.invariant.1.0) (rw long at f.0)
+
+pub returns-then-count-ge-LONGEST-clause-buffer_after : goal.returns-then-count-ge-LONGEST-clause-buffer_after
+unfolding push_stream push_buffer
+returns-then-count-ge-LONGEST-clause-buffer_after c =
+    let l = c.loop-c in
+    let size = length c.args.buffer.now in
+    let long = le-leb _ _ c.if-count-ge-LONGEST.true in
+    let f =
+    fed_refused (fed_one l.invariant.0 c.loop-c-test.true l.invariant.1.0 refl refl)
+    (rw long (long_number_lem l.s.reader size).0) in
+    rw long at f.1
+
+pub returns-in-Err-clause-value : goal.returns-in-Err-clause-value
+unfolding push_stream push_buffer
+returns-in-Err-clause-value c =
+    let l = c.loop-c in
+    let g = rw l.invariant.1.0 at (sym c.in-Err.ensures.result_value) in
+    let room = lt-leb _ _ c.if-count-ge-LONGEST.false in
+    let end = eq-eqb _ _ c.if-c-eq10.true in
+    let f =
+    fed_refused (fed_one l.invariant.0 c.loop-c-test.true l.invariant.1.0 refl refl)
+    (rw (room, end, g) (line_number l.s.reader _ _ _ g).0) in
+    rw c.from-in-Err.ensures (rw (room, end, g) at f.0)
+
+pub returns-in-Err-clause-buffer_after : goal.returns-in-Err-clause-buffer_after
+unfolding push_stream push_buffer
+returns-in-Err-clause-buffer_after c =
+    let l = c.loop-c in
+    let g = rw l.invariant.1.0 at (sym c.in-Err.ensures.result_value) in
+    let room = lt-leb _ _ c.if-count-ge-LONGEST.false in
+    let end = eq-eqb _ _ c.if-c-eq10.true in
+    let f =
+    fed_refused (fed_one l.invariant.0 c.loop-c-test.true l.invariant.1.0 refl refl)
+    (rw (room, end, g) (line_number l.s.reader _ _ _ g).0) in
+    c.read_line.ensures.buffer_after ∙ rw (room, end) at f.1
+
 pub loop-c-preserved : goal.loop-c-preserved
+unfolding push_stream push_buffer
 loop-c-preserved c =
     let l = c.loop-c in
-    let e = c.push.ensures in
-    (fed_one l.invariant.0 c.loop-c-test.true l.auto.buffer (sym (rw l.auto.buffer at e.value)) (sym e.buffer_after), c.push.auto.buffer ∙ l.auto.buffer)
+    let room = lt-leb _ _ c.if-count-ge-LONGEST.false in
+    elim c.if-c-eq10.branch [
+      | then-c-eq10+in-Ok w ↦
+          (let g = rw l.invariant.1.0 at (sym w.in-Ok.ensures.result_value) in
+          let end = eq-eqb _ _ w.if-c-eq10.true in
+          rw (w.buffer-is, w.s-is, w.count-is) (
+            fed_one l.invariant.0 c.loop-c-test.true l.invariant.1.0 (rw (room, end, g)) (rw (room, end) (sym w.read_line.ensures.buffer_after)),
+            (w.read_line.auto.buffer ∙ l.invariant.1.0, rw length-set l.invariant.1.1, l.invariant.1.2),
+          ))
+      | else-c-eq10 w ↦
+          (let other = ne_eqb _ _ w.if-c-eq10.false in
+          rw (w.buffer-is, w.s-is, w.count-is) (
+            fed_one l.invariant.0 c.loop-c-test.true l.invariant.1.0 (rw (room, other)) (rw (room, other)),
+            (l.invariant.1.0, rw length-set l.invariant.1.1, l.invariant.1.2),
+          ))
+    ]
 
 pub returns-clause-value : goal.returns-clause-value
-returns-clause-value c = (fed_all c.loop-c.invariant.0 c.loop-c-test.false).0
+returns-clause-value c = rw c.loop-c.invariant.1.2 ((fed_all c.loop-c.invariant.0 c.loop-c-test.false).0)
 
 pub returns-clause-buffer_after : goal.returns-clause-buffer_after
 returns-clause-buffer_after c = (fed_all c.loop-c.invariant.0 c.loop-c-test.false).1
