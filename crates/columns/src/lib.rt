@@ -14,7 +14,7 @@ use isa::{
     UnaryRow,
 };
 
-// The three bytes behind an instruction's first. What takes them is put within its caller: lent to a call they go through memory.
+// The three bytes behind an instruction's first. What takes them is put within its caller: handed to a call they go through memory.
 #[derive(Clone, Copy, Debug, PartialEq, Eq)]
 pub struct Following {
     pub first: u8,

@@ -151,7 +151,7 @@ fn entry_rule(n: &EntryAt) -> bool
 fn address_rule(rom: u16, cert: &Certificate, a: RomAddr) -> bool
     ensures { result ≡ decide (address_rule (said_by cert.now) rom a.0) }
 {
-    // Made anew in each branch: most entries are empty, and one of these is not lent on.
+    // Made in each branch: most entries are empty, and the test of one is no call.
     if cert.entry(a).routine == 0 {
         return empty_entry(&EntryAt::new(cert, a));
     }

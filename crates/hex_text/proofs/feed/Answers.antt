@@ -1,12 +1,11 @@
 -- `feed`: a turn feeds one character, and ends where a line is refused.
 -- Assumes nothing.
-use Rattle.std.proofs.Common.{rules, ◌≡◌, ◌<◌, arith, refl, sym, ◌∙◌, le-leb, eq-eqb, ne_eqb, length}
+use Rattle.std.proofs.Common.{◌<◌, arith, sym, ◌∙◌, eq-eqb, ne_eqb}
 use Rattle.std.proofs.Math.ListN.{length-set}
 use Rattle.std.proofs.lemmas.Bool.{lt-leb}
-use Rattle.hex_line.proofs.Refusals.{line_number}
 use Rattle.hex_text.specs.Stream.{push_stream, push_buffer}
-use Rattle.hex_text.specs.StreamLaws.{fed_one, fed_all, fed_refused, feed_refused, feed_refused_buffer, open_stream}
-use Rattle.hex_text.specs.Refusals.{long_number_lem}
+use Rattle.hex_text.specs.StreamLaws.{fed_one, fed_all, feed_refused, feed_refused_buffer}
+use Rattle.hex_text.proofs.FeedLaws.{fed_long, fed_fault}
 use Rattle.hex_text.proofs.feed.Goals.{then-c-eq10+in-Ok, else-c-eq10}
 use Rattle.hex_text.proofs.feed.Goals as goal
 
@@ -21,50 +20,27 @@ returns-then-s-ne0-clause-buffer_after c =
     sym (feed_refused_buffer c.args.s c.args.piece.now c.args.buffer.now above)
 
 pub returns-then-count-ge-LONGEST-clause-value : goal.returns-then-count-ge-LONGEST-clause-value
-unfolding push_stream push_buffer
 returns-then-count-ge-LONGEST-clause-value c =
     let l = c.loop-c in
-    let size = length c.args.buffer.now in
-    let long = le-leb _ _ c.if-count-ge-LONGEST.true in
-    let f =
-    fed_refused (fed_one l.invariant.0 c.loop-c-test.true l.invariant.1.0 refl refl)
-    (rw long (long_number_lem l.s.reader size).0) in
-    rw (c.from.ensures, c.long_line.ensures, l.invariant.1.0) (rw long at f.0)
+    rw (c.from.ensures, c.long_line.ensures, l.invariant.1.0) (fed_long l.invariant.0 c.loop-c-test.true l.invariant.1.0 c.if-count-ge-LONGEST.true).0
 
 pub returns-then-count-ge-LONGEST-clause-buffer_after : goal.returns-then-count-ge-LONGEST-clause-buffer_after
-unfolding push_stream push_buffer
 returns-then-count-ge-LONGEST-clause-buffer_after c =
     let l = c.loop-c in
-    let size = length c.args.buffer.now in
-    let long = le-leb _ _ c.if-count-ge-LONGEST.true in
-    let f =
-    fed_refused (fed_one l.invariant.0 c.loop-c-test.true l.invariant.1.0 refl refl)
-    (rw long (long_number_lem l.s.reader size).0) in
-    rw long at f.1
+    (fed_long l.invariant.0 c.loop-c-test.true l.invariant.1.0 c.if-count-ge-LONGEST.true).1
 
 pub returns-in-Err-clause-value : goal.returns-in-Err-clause-value
-unfolding push_stream push_buffer
 returns-in-Err-clause-value c =
     let l = c.loop-c in
     let g = rw l.invariant.1.0 at (sym c.in-Err.ensures.result_value) in
-    let room = lt-leb _ _ c.if-count-ge-LONGEST.false in
-    let end = eq-eqb _ _ c.if-c-eq10.true in
-    let f =
-    fed_refused (fed_one l.invariant.0 c.loop-c-test.true l.invariant.1.0 refl refl)
-    (rw (room, end, g) (line_number l.s.reader _ _ _ g).0) in
-    rw c.from-in-Err.ensures (rw (room, end, g) at f.0)
+    rw c.from-in-Err.ensures (fed_fault l.invariant.0 c.loop-c-test.true l.invariant.1.0 c.if-count-ge-LONGEST.false c.if-c-eq10.true g).0
 
 pub returns-in-Err-clause-buffer_after : goal.returns-in-Err-clause-buffer_after
-unfolding push_stream push_buffer
 returns-in-Err-clause-buffer_after c =
     let l = c.loop-c in
     let g = rw l.invariant.1.0 at (sym c.in-Err.ensures.result_value) in
-    let room = lt-leb _ _ c.if-count-ge-LONGEST.false in
-    let end = eq-eqb _ _ c.if-c-eq10.true in
-    let f =
-    fed_refused (fed_one l.invariant.0 c.loop-c-test.true l.invariant.1.0 refl refl)
-    (rw (room, end, g) (line_number l.s.reader _ _ _ g).0) in
-    c.read_line.ensures.buffer_after ∙ rw (room, end) at f.1
+    c.read_line.ensures.buffer_after
+    ∙ (fed_fault l.invariant.0 c.loop-c-test.true l.invariant.1.0 c.if-count-ge-LONGEST.false c.if-c-eq10.true g).1
 
 pub loop-c-preserved : goal.loop-c-preserved
 unfolding push_stream push_buffer
