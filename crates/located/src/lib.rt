@@ -37,7 +37,7 @@ fn decoded_at(image: &[u8], at: &EntryAt, decoded: Decoded) -> Located
 {
     let next = RomAddr(at.address.0.wrapping_add(u16::from(decoded.length)));
     let action = action::action_of(decoded.instruction, next);
-    let summary = summary::summary_of(image, at, action, decoded.names);
+    let summary = summary::summary_at_entry(image, at, action, decoded.names);
     Located { summary, next }
 }
 

@@ -289,7 +289,7 @@ fn load_code(d: RegAddr, from: CodeAccess, loaded: Range, g: FlagEffect) -> Summ
 
 // The effect summary of an action and the flags that it names; load gives the range of the bytes that LDC, LDCI and LDCD can load.
 #[tactic(auto, unfolding(certificate::specs::Summaries::summary_of))]
-fn summary_by<F: Fn(CodeAccess) -> Range>(load: F, action: Action, names: FlagSet) -> Summary
+pub fn summary_of<F: Fn(CodeAccess) -> Range>(load: F, action: Action, names: FlagSet) -> Summary
     requires { F.IsAlwaysCallable load }
     ensures { (l : _) → ((c : _) (r : _) → F.post load c r → r ≡ l c) → result ≡ summary_of l action names }
 {
@@ -319,9 +319,9 @@ fn summary_by<F: Fn(CodeAccess) -> Range>(load: F, action: Action, names: FlagSe
     }
 }
 
-// The effect summary of the action of the instruction at an entry's address, and of the flags that it names.
-pub fn summary_of(image: &[u8], n: &EntryAt, action: Action, names: FlagSet) -> Summary
+// The same of the instruction at an entry's address: LDC, LDCI and LDCD load what the claims of the entry let them reach.
+pub fn summary_at_entry(image: &[u8], n: &EntryAt, action: Action, names: FlagSet) -> Summary
     ensures { result ≡ summary_of (load_range (said_by n.now.certificate) image.now n.now.address.0) action names }
 {
-    summary_by(|c| code_range::load_range(image, n, c), action, names)
+    summary_of(|c| code_range::load_range(image, n, c), action, names)
 }
