@@ -319,7 +319,7 @@ pub fn summary_of<F: Fn(CodeAccess) -> Range>(load: F, action: Action, names: Fl
     }
 }
 
-// The same of the instruction at an entry's address: LDC, LDCI and LDCD load what the claims of the entry let them reach.
+// The same, where LDC, LDCI and LDCD load what the claims of an entry let them reach.
 pub fn summary_at_entry(image: &[u8], n: &EntryAt, action: Action, names: FlagSet) -> Summary
     ensures { result ≡ summary_of (load_range (said_by n.now.certificate) image.now n.now.address.0) action names }
 {
